@@ -1,0 +1,41 @@
+-- Widening (document 01, "Two kinds of number"): "A 16-bit field is widened to the whole number congruent to it modulo 65,536 that
+-- lies from R − 32,768 to R + 32,767." Nearest.antt shows that this is what widenOf gives, and that nothing else would do.
+use Prim.Native.Nat.{ℕ, _+_, _-_, _%_}
+use mathlib.Core.Bool.{Bool, true, cond}
+use lib.Dec.{ltb, leb}
+use Rattle.numbers.specs.declared.Widened.{Widened}
+use Rattle.numbers.specs.declared.Widened.the-variants.{At, Below}
+use Rattle.numbers.specs.declared.WidenedData.{WidenedData}
+use Rattle.numbers.specs.declared.WidenedData.the-variants.{At as DataAt, Below as DataBelow}
+use Rattle.numbers.specs.declared.WidenedChannel.{WidenedChannel}
+use Rattle.numbers.specs.declared.WidenedChannel.the-variants.{At as ChannelAt, Below as ChannelBelow}
+
+-- how far below R + 32,767 the wanted number lies
+abbrev pub backOf : ℕ → ℕ → ℕ
+backOf r f = (r + 32767 + 65536 - f) % 65536
+
+-- At n is the whole number n, Below m is −m
+unfoldable pub widenOf : ℕ → ℕ → Widened
+widenOf r f = cond (leb (backOf r f) (r + 32767)) (At (r + 32767 - backOf r f)) (Below (backOf r f - (r + 32767)))
+
+-- "A result below the first number of its kind is out of place."
+abbrev pub outOf : ℕ → Widened → Bool
+outOf first (At n) = ltb n first
+outOf first (Below m) = true
+
+-- the same number as one of a kind, and back
+abbrev pub dataOf : Widened → WidenedData
+dataOf (At n) = DataAt (record { 0 = n })
+dataOf (Below m) = DataBelow m
+
+abbrev pub channelOf : Widened → WidenedChannel
+channelOf (At n) = ChannelAt (record { 0 = n })
+channelOf (Below m) = ChannelBelow m
+
+abbrev pub fromData : WidenedData → Widened
+fromData (DataAt n) = At (n .0)
+fromData (DataBelow m) = Below m
+
+abbrev pub fromChannel : WidenedChannel → Widened
+fromChannel (ChannelAt n) = At (n .0)
+fromChannel (ChannelBelow m) = Below m

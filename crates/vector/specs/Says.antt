@@ -1,0 +1,44 @@
+-- What the bytes of an acknowledgement vector say (document 01, "On the wire", its last point; document 000, 2.2.1.2.6).
+use Prim.Native.Nat.{ℕ, zero, suc, _-_, _%_, _/_, _^_}
+use mathlib.Core.Bool.{Bool, false, cond}
+use mathlib.Core.List.{List, [], _∷_, _++_}
+use lib.ListN.{getD, replicate}
+use lib.Dec.{eqb, leb}
+use Rattle.vector.specs.declared.Saying.{Saying}
+use Rattle.vector.specs.declared.Saying.the-variants.{Map, Run}
+
+-- bit i of b, bit 0 the least significant
+abbrev pub bitOf : ℕ → ℕ → Bool
+bitOf b i = eqb (b / 2 ^ i % 2) 1
+
+-- "A vector byte with bit 7 clear gives seven numbers .. With bit 7 set, bit 6 is the state and bits 0..5 the run length."
+unfoldable pub saysOf : ℕ → Saying
+saysOf b = cond (bitOf b 7) (Run (bitOf b 6) (b % 64)) (Map (b % 128))
+
+-- k bits, the least significant first
+unfoldable pub bitsOf : ℕ → ℕ → List Bool
+bitsOf zero m = []
+bitsOf (suc k) m = eqb (m % 2) 1 ∷ bitsOf k (m / 2)
+
+-- the states that a byte gives, in the order of the numbers: "bit i for the i-th, 1 received"; "Length 0 .. name[s] nothing."
+unfoldable pub statesIn : Saying → List Bool
+statesIn (Map m) = bitsOf 7 m
+statesIn (Run s n) = replicate n s
+
+-- the states that a vector gives, from its base on
+unfoldable pub statesOf : List ℕ → List Bool
+statesOf [] = []
+statesOf (b ∷ bs) = statesIn (saysOf b) ++ statesOf bs
+
+-- does a vector from this base name number n as received?
+unfoldable pub names : List ℕ → ℕ → ℕ → Bool
+names v base n = cond (leb base n) (getD (statesOf v) (n - base) false) false
+
+-- how many of some states are received
+unfoldable pub countOf : List Bool → ℕ
+countOf [] = 0
+countOf (s ∷ ss) = cond s (suc (countOf ss)) (countOf ss)
+
+-- how many numbers a byte names as received
+unfoldable pub receivedIn : ℕ → ℕ
+receivedIn b = countOf (statesIn (saysOf b))
