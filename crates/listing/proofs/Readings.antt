@@ -1,0 +1,30 @@
+-- The lines of what was read, in the parts that are written one after the other, a law for each way out.
+use Prim.Native.Nat.{ℕ}
+use mathlib.Core.List.{_++_, append-assoc, append-nil}
+use mathlib.Core.Path.{_≡_, refl}
+use Rattle.text.specs.Ascii.{ascii}
+use Rattle.text.specs.Decimal.{decimalOf}
+use Rattle.wire.specs.declared.Packet.{Packet}
+use Rattle.wire.specs.declared.Reading.{Reading}
+use Rattle.wire.specs.declared.Reading.the-variants.{Refused, Dummy, Read}
+use Rattle.listing.specs.Lines.{packetLines, linesFor}
+use Rattle.listing.specs.Parts.{under, headLines, middleLines, tailLines}
+
+-- the twelve lines in their three parts
+pub packet-parts : (p : Packet)
+    → headLines (p .values) ++ (middleLines (p .values) ++ tailLines (p .values) (p .bytes)) ≡ packetLines p
+unfolding headLines middleLines tailLines packetLines
+packet-parts p = simp (append-assoc, append-nil)
+
+pub refused-lines : {r : Reading} {n : ℕ} → r ≡ Refused n → under (ascii "answer=") (decimalOf n) ≡ linesFor r
+unfolding linesFor
+refused-lines e = rw e refl
+
+pub dummy-lines : {r : Reading} → r ≡ Dummy
+    → under (ascii "answer=") (decimalOf 0) ++ under (ascii "type=") (decimalOf 8) ≡ linesFor r
+unfolding linesFor
+dummy-lines e = rw e refl
+
+pub read-lines : {r : Reading} {p : Packet} → r ≡ Read p → packetLines p ≡ linesFor r
+unfolding linesFor
+read-lines e = rw e refl

@@ -1,0 +1,39 @@
+-- `number` meets its contract: a decimal of 64 bits, or one byte, is at most 20 bytes.
+use native.Mathlib.Omega.{arith}
+use borrow.Author.Needs.{needs}
+use Rattle.listing.proofs.Runs.{within, within-decimal, within-present, within-absent}
+use Rattle.listing.proofs.number.Statement.{statement}
+use Rattle.listing.proofs.number.Tie as tie
+
+decimal-requires : tie.Need-decimal-requires
+decimal-requires c κs = search needs
+
+same-length : tie.Need-same-length
+same-length c = search needs
+
+returns : tie.Need-returns
+returns c = within-present _ _ (c .before .before .before .before .if1 .taken) (within-decimal (omega arith) (c .before .before .decimal .ensures))
+
+slice-aggregate-words : tie.Need-slice-aggregate-words
+slice-aggregate-words c = search needs
+
+words-requires : tie.Need-words-requires
+words-requires c κs = search needs
+
+same-length-2 : tie.Need-same-length-2
+same-length-2 c = search needs
+
+returns-2 : tie.Need-returns-2
+returns-2 c = within-absent _ _ (c .before .before .before .before .before .if1 .left) (within 20 (omega arith) (c .before .before .words .ensures))
+
+pub number-spec : {M : Type 1} → statement M
+number-spec =
+    tie.close
+    (tie.spec
+    decimal-requires
+    same-length
+    returns
+    slice-aggregate-words
+    words-requires
+    same-length-2
+    returns-2)

@@ -1,0 +1,35 @@
+-- `number_line` meets its contract: key, value and newline are laid one after the other.
+use native.Mathlib.Omega.{arith}
+use borrow.Author.Needs.{needs}
+use Rattle.listing.proofs.Runs.{within, within-line}
+use Rattle.listing.proofs.number_line.Statement.{statement}
+use Rattle.listing.proofs.number_line.Tie as tie
+
+words-requires : tie.Need-words-requires
+words-requires c κs = search needs
+
+number-requires : tie.Need-number-requires
+number-requires c κs = search needs
+
+slice-aggregate-words : tie.Need-slice-aggregate-words
+slice-aggregate-words c = search needs
+
+words-requires-2 : tie.Need-words-requires-2
+words-requires-2 c κs = search needs
+
+same-length : tie.Need-same-length
+same-length c = search needs
+
+returns : tie.Need-returns
+returns c = within-line (c .before .before .before .before .before .before .before .before .before .before .before .before .before .before .before .pre .0) (within 10 (omega arith) (c .before .before .before .before .before .before .before .before .before .before .before .words .ensures)) (c .before .before .before .before .before .before .before .number .ensures) (within 1 (omega arith) (c .before .before .words2 .ensures))
+
+pub number-line-spec : {M : Type 1} → statement M
+number-line-spec =
+    tie.close
+    (tie.spec
+    words-requires
+    number-requires
+    slice-aggregate-words
+    words-requires-2
+    same-length
+    returns)

@@ -1,0 +1,63 @@
+-- `vector_line` meets its contract: key, numbers and newline one after the other where the flag is set, and the whole line at once where it is not.
+use mathlib.Core.Path.{sym, _∙_}
+use native.Mathlib.Omega.{arith}
+use borrow.Author.Needs.{needs}
+use Rattle.text.specs.Ascii.{ascii}
+use Rattle.listing.proofs.Runs.{within, within-line, within-present, within-dash}
+use Rattle.listing.proofs.vector_line.Statement.{statement}
+use Rattle.listing.proofs.vector_line.Tie as tie
+
+flag-requires : tie.Need-flag-requires
+flag-requires c κs = search needs
+
+slice-aggregate-words : tie.Need-slice-aggregate-words
+slice-aggregate-words c = search needs
+
+words-requires : tie.Need-words-requires
+words-requires c κs = search needs
+
+vector-text-requires : tie.Need-vector-text-requires
+vector-text-requires c κs = search needs
+
+slice-aggregate-words-2 : tie.Need-slice-aggregate-words-2
+slice-aggregate-words-2 c = search needs
+
+words-requires-2 : tie.Need-words-requires-2
+words-requires-2 c κs = search needs
+
+same-length : tie.Need-same-length
+same-length c = search needs
+
+returns : tie.Need-returns
+returns c = within-line (c .before .before .before .before .before .before .before .before .before .before .before .before .before .before .before .before .before .pre) (within 4 (omega arith) (c .before .before .before .before .before .before .before .before .before .before .before .words .ensures))
+    (within-present _ _ (sym (c .before .before .before .before .before .before .before .before .before .before .before .before .before .before .before .flag .ensures) ∙ c .before .before .before .before .before .before .before .before .before .before .before .before .before .before .if1 .taken) (c .before .before .before .before .before .before .before .vector-text .ensures))
+    (within 1 (omega arith) (c .before .before .words2 .ensures))
+
+slice-aggregate-words-3 : tie.Need-slice-aggregate-words-3
+slice-aggregate-words-3 c = search needs
+
+words-requires-3 : tie.Need-words-requires-3
+words-requires-3 c κs = search needs
+
+same-length-2 : tie.Need-same-length-2
+same-length-2 c = search needs
+
+returns-2 : tie.Need-returns-2
+returns-2 c = within-dash (ascii "vec=") _ _ (sym (c .before .before .before .before .before .before .flag .ensures) ∙ c .before .before .before .before .before .if1 .left) (within 67 (omega arith) (c .before .before .words3 .ensures))
+
+pub vector-line-spec : {M : Type 1} → statement M
+vector-line-spec =
+    tie.close
+    (tie.spec
+    flag-requires
+    slice-aggregate-words
+    words-requires
+    vector-text-requires
+    slice-aggregate-words-2
+    words-requires-2
+    same-length
+    returns
+    slice-aggregate-words-3
+    words-requires-3
+    same-length-2
+    returns-2)

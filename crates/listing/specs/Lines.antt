@@ -1,0 +1,77 @@
+-- The lines of one datagram: "A refusal is one line `answer=N`; a dummy two, `answer=0` and `type=8`. Absent is `-`. ack= gives number, time,
+-- gap, n, scale; delay= maximum, timeout; vec= base, size, time or `-`, separated by commas." Every number is in decimal, and each line ends
+-- with a newline.
+use Prim.Native.Nat.{ℕ}
+use Prim.Native.String.{String}
+use mathlib.Core.Bool.{Bool, cond}
+use mathlib.Core.List.{List, [], _∷_, _++_}
+use lib.ListN.{length}
+use lib.Dec.{ltb}
+use Rattle.common.specs.Put.{joined}
+use Rattle.common.specs.Order.{test, first}
+use Rattle.text.specs.Ascii.{ascii}
+use Rattle.text.specs.Decimal.{decimalOf}
+use Rattle.wire.specs.declared.Ack.{Ack}
+use Rattle.wire.specs.declared.Delay.{Delay}
+use Rattle.wire.specs.declared.Vector.{Vector}
+use Rattle.wire.specs.declared.Packet.{Packet}
+use Rattle.wire.specs.declared.Reading.{Reading}
+use Rattle.wire.specs.declared.Reading.the-variants.{Refused, Dummy, Read}
+use Rattle.wire.specs.Flags.{ackIn, dataIn, vectorIn, aoaIn, overheadIn, delayIn}
+use Rattle.wire.specs.Read.{readOf}
+
+-- a line: key, `=`, value, newline
+abbrev pub line : String → List ℕ → List ℕ
+line key value = joined (ascii key ∷ ascii "=" ∷ value ∷ ascii "\n" ∷ [])
+
+-- "Absent is `-`."
+abbrev pub orDash : Bool → List ℕ → List ℕ
+orDash present value = cond present value (ascii "-")
+
+-- "separated by commas"
+abbrev pub comma : List ℕ → List ℕ → List ℕ
+comma a b = joined (a ∷ ascii "," ∷ b ∷ [])
+
+-- "ack= gives number, time, gap, n, scale"
+abbrev pub ackText : Ack → List ℕ
+ackText a =
+    comma (decimalOf (a .number))
+    (comma (decimalOf (a .time)) (comma (decimalOf (a .gap)) (comma (decimalOf (a .count)) (decimalOf (a .scale)))))
+
+-- "delay= maximum, timeout"
+abbrev pub delayText : Delay → List ℕ
+delayText y = comma (decimalOf (y .most)) (decimalOf (y .timeout))
+
+-- "vec= base, size, time or `-`"
+abbrev pub vectorText : Vector → List ℕ
+vectorText x = comma (decimalOf (x .base)) (comma (decimalOf (x .size)) (orDash (x .timed) (decimalOf (x .time))))
+
+unfoldable pub packetLines : Packet → List ℕ
+packetLines p =
+    joined
+    (line "answer" (decimalOf 0)
+    ∷ line "type" (decimalOf 0)
+    ∷ line "flags" (decimalOf (p .values .flags))
+    ∷ line "logwindow" (decimalOf (p .values .logwindow))
+    ∷ line "ack" (orDash (ackIn (p .values .flags)) (ackText (p .values .ack)))
+    ∷ line "overhead" (orDash (overheadIn (p .values .flags)) (decimalOf (p .values .overhead)))
+    ∷ line "delay" (orDash (delayIn (p .values .flags)) (delayText (p .values .delay)))
+    ∷ line "aoa" (orDash (aoaIn (p .values .flags)) (decimalOf (p .values .aoa)))
+    ∷ line "data" (orDash (dataIn (p .values .flags)) (decimalOf (p .values .number)))
+    ∷ line "vec" (orDash (vectorIn (p .values .flags)) (vectorText (p .values .vector)))
+    ∷ line "channel" (orDash (dataIn (p .values .flags)) (decimalOf (p .values .channel)))
+    ∷ line "bytes" (orDash (dataIn (p .values .flags)) (decimalOf (p .bytes)))
+    ∷ [])
+
+unfoldable pub linesFor : Reading → List ℕ
+linesFor (Refused n) = line "answer" (decimalOf n)
+linesFor Dummy = line "answer" (decimalOf 0) ++ line "type" (decimalOf 8)
+linesFor (Read p) = packetLines p
+
+-- the listing of a datagram
+unfoldable pub listingOf : List ℕ → List ℕ
+listingOf d = linesFor (readOf d)
+
+-- 14 exactly if the output buffer is too short
+unfoldable pub answerOf : List ℕ → ℕ → ℕ
+answerOf d room = first (test (ltb room (length (listingOf d))) 14 ∷ [])

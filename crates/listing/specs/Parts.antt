@@ -1,0 +1,49 @@
+-- The listing in parts, as one function after the other writes it.
+use Prim.Native.Nat.{ℕ, _+_, _≤_}
+use mathlib.Core.List.{List, [], _∷_}
+use mathlib.Core.Path.{_≡_}
+use lib.ListN.{length}
+use Rattle.common.specs.Put.{putOf, joined}
+use Rattle.text.specs.Ascii.{ascii}
+use Rattle.text.specs.Decimal.{decimalOf}
+use Rattle.wire.specs.declared.Values.{Values}
+use Rattle.wire.specs.Flags.{ackIn, dataIn, vectorIn, aoaIn, overheadIn, delayIn}
+use Rattle.listing.specs.Lines.{line, orDash, ackText, delayText, vectorText}
+
+-- b was laid over d from place at on, which gave e; r is one past its last byte, and it has at most k bytes
+pub record LaidWithin (k : ℕ) (b d : List ℕ) (at : ℕ) (e : List ℕ) (r : ℕ) : Type 0 where
+  pub ends : r ≡ at + length b
+  pub bytes : e ≡ putOf d at b
+  pub room : r ≤ at + k
+
+-- a value under its key, which ends with `=`
+abbrev pub under : List ℕ → List ℕ → List ℕ
+under key value = joined (key ∷ value ∷ ascii "\n" ∷ [])
+
+-- the twelve lines, four at a time
+unfoldable pub headLines : Values → List ℕ
+headLines v =
+    joined
+    (line "answer" (decimalOf 0)
+    ∷ line "type" (decimalOf 0)
+    ∷ line "flags" (decimalOf (v .flags))
+    ∷ line "logwindow" (decimalOf (v .logwindow))
+    ∷ [])
+
+unfoldable pub middleLines : Values → List ℕ
+middleLines v =
+    joined
+    (line "ack" (orDash (ackIn (v .flags)) (ackText (v .ack)))
+    ∷ line "overhead" (orDash (overheadIn (v .flags)) (decimalOf (v .overhead)))
+    ∷ line "delay" (orDash (delayIn (v .flags)) (delayText (v .delay)))
+    ∷ line "aoa" (orDash (aoaIn (v .flags)) (decimalOf (v .aoa)))
+    ∷ [])
+
+unfoldable pub tailLines : Values → ℕ → List ℕ
+tailLines v bytes =
+    joined
+    (line "data" (orDash (dataIn (v .flags)) (decimalOf (v .number)))
+    ∷ line "vec" (orDash (vectorIn (v .flags)) (vectorText (v .vector)))
+    ∷ line "channel" (orDash (dataIn (v .flags)) (decimalOf (v .channel)))
+    ∷ line "bytes" (orDash (dataIn (v .flags)) (decimalOf bytes))
+    ∷ [])
