@@ -18,15 +18,15 @@ use Rattle.listing.specs.Lines.{linesFor, listingOf, answerOf}
 module _ (d : List ℕ) {k n : ℕ} {z e : List ℕ} {r : Reading} (q : r ≡ readOf d) (l : LaidWithin k (linesFor r) z 0 e n) where
   listing-end : n ≡ length (listingOf d)
   unfolding listingOf
-  listing-end = l .ends ∙ rw q (omega arith)
+  listing-end = l .laid .next ∙ rw q (omega arith)
 
   -- what was taken is the listing
   pub listing-front : take n e ≡ listingOf d
   unfolding listingOf
   listing-front =
       let b = linesFor r in
-      let a : length b ≡ n = omega (arith, l .ends) in
-      ap (take n) (l .bytes ∙ put-front z b) ∙ take-at b (drop (length b) z) n a ∙ ap linesFor q
+      let a : length b ≡ n = omega (arith, l .laid .next) in
+      ap (take n) (l .laid .bytes ∙ put-front z b) ∙ take-at b (drop (length b) z) n a ∙ ap linesFor q
 
   pub listing-taken : n ≡ length (take n e)
   listing-taken = listing-end ∙ sym (ap length listing-front)

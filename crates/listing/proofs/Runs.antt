@@ -2,10 +2,11 @@
 use Prim.Native.Nat.{ℕ, _+_, _^_, _≤_, _<_}
 use mathlib.Core.Bool.{Bool, true, false}
 use mathlib.Core.List.{List, [], _∷_, _++_, append-assoc, append-nil}
-use mathlib.Core.Path.{_≡_, sym, _∙_, ap}
+use mathlib.Core.Path.{_≡_, sym}
 use native.Mathlib.Omega.{arith}
-use lib.ListN.{length, length-append}
-use Rattle.common.specs.Put.{putOf, put-length, put-put, joined}
+use lib.ListN.{length}
+use Rattle.common.specs.Put.{joined}
+use Rattle.common.specs.Laid.{Laid, laid-then, laid-length}
 use Rattle.text.specs.Ascii.{ascii}
 use Rattle.text.specs.Decimal.{decimalOf}
 use Rattle.text.specs.Laws.{decimal-length}
@@ -13,12 +14,11 @@ use Rattle.listing.specs.Lines.{orDash, comma}
 use Rattle.listing.specs.Parts.{LaidWithin, under}
 
 -- bytes that one call put there, at most k of them
-pub within : {at r : ℕ} {b d e : List ℕ} (k : ℕ) → length b ≤ k → (r ≡ at + length b) × (e ≡ putOf d at b) → LaidWithin k b d at e r
-within k h p = record { ends = p .0; bytes = p .1; room = omega arith }
+pub within : {at r : ℕ} {b d e : List ℕ} (k : ℕ) → length b ≤ k → Laid d at b e r → LaidWithin k b d at e r
+within k h l = record { laid = l; room = omega (arith, l .next) }
 
 -- a number of 64 bits has at most 20 digits
-pub within-decimal : {at r n : ℕ} {d e : List ℕ} → n < 2 ^ 64 → (r ≡ at + length (decimalOf n)) × (e ≡ putOf d at (decimalOf n))
-    → LaidWithin 20 (decimalOf n) d at e r
+pub within-decimal : {at r n : ℕ} {d e : List ℕ} → n < 2 ^ 64 → Laid d at (decimalOf n) e r → LaidWithin 20 (decimalOf n) d at e r
 within-decimal {at} {r} {n} h p = within 20 (decimal-length 20 n (omega arith) (omega arith)) p
 
 -- the same bytes by another name
@@ -27,11 +27,11 @@ within-as p l = rw p at l
 
 -- no more than more
 pub within-wider : {k at r : ℕ} {b d e : List ℕ} (m : ℕ) → k ≤ m → LaidWithin k b d at e r → LaidWithin m b d at e r
-within-wider m h l = record { ends = l .ends; bytes = l .bytes; room = omega arith }
+within-wider m h l = record { laid = l .laid; room = omega arith }
 
 -- what is laid within d's bytes leaves as many as there were
 pub within-length : {k at r : ℕ} {b d e : List ℕ} → at + k ≤ length d → LaidWithin k b d at e r → length e ≡ length d
-within-length {k} {at} {r} {b} {d} {e} h l = ap length (l .bytes) ∙ put-length d at b (omega arith)
+within-length {k} {at} {r} {b} {d} {e} h l = laid-length (omega (arith, l .laid .next)) (l .laid)
 
 -- one part after another; the second may count on the room that the first left
 pub within-then : {k m at r s : ℕ} {a b d e f : List ℕ} → at + (k + m) ≤ length d → LaidWithin k a d at e r
@@ -39,15 +39,7 @@ pub within-then : {k m at r s : ℕ} {a b d e f : List ℕ} → at + (k + m) ≤
 within-then {k} {m} {at} {r} {s} {a} {b} {d} {e} {f} h l next =
     let o = within-length (omega arith) l in
     let n = next (omega arith) in
-    record {
-      ends = omega (arith, l .ends, n .ends, length-append a b);
-      bytes =
-          n .bytes
-          ∙ ap (λ (x : List ℕ). putOf x r b) (l .bytes)
-          ∙ ap (λ (x : ℕ). putOf (putOf d at a) x b) (l .ends)
-          ∙ put-put d at a b (omega arith);
-      room = omega arith;
-    }
+    record { laid = laid-then (omega (arith, l .laid .next)) (l .laid) (n .laid); room = omega arith }
 
 -- four in a row
 pub within-four : {i j k l at p q r s : ℕ} {a b c x d e f g h : List ℕ} → at + (i + (j + (k + l))) ≤ length d → LaidWithin i a d at e p

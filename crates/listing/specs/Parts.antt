@@ -1,19 +1,17 @@
 -- The listing in parts, as one function after the other writes it.
 use Prim.Native.Nat.{ℕ, _+_, _≤_}
 use mathlib.Core.List.{List, [], _∷_}
-use mathlib.Core.Path.{_≡_}
-use lib.ListN.{length}
-use Rattle.common.specs.Put.{putOf, joined}
+use Rattle.common.specs.Put.{joined}
+use Rattle.common.specs.Laid.{Laid}
 use Rattle.text.specs.Ascii.{ascii}
 use Rattle.text.specs.Decimal.{decimalOf}
 use Rattle.wire.specs.declared.Values.{Values}
 use Rattle.wire.specs.Flags.{ackIn, dataIn, vectorIn, aoaIn, overheadIn, delayIn}
 use Rattle.listing.specs.Lines.{line, orDash, ackText, delayText, vectorText}
 
--- b was laid over d from place at on, which gave e; r is one past its last byte, and it has at most k bytes
+-- b was laid over d from place at on, and has at most k bytes
 pub record LaidWithin (k : ℕ) (b d : List ℕ) (at : ℕ) (e : List ℕ) (r : ℕ) : Type 0 where
-  pub ends : r ≡ at + length b
-  pub bytes : e ≡ putOf d at b
+  pub laid : Laid d at b e r
   pub room : r ≤ at + k
 
 -- a value under its key, which ends with `=`

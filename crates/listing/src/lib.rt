@@ -26,7 +26,7 @@ fn number(out: &mut [u8], at: usize, present: bool, n: u64) -> usize
     if present {
         return text::decimal(out, at, n);
     }
-    text::words(out, at, b"-")
+    common::lay(out, at, b"-")
 }
 
 // A number with a comma behind it.
@@ -35,7 +35,7 @@ fn item(out: &mut [u8], at: usize, n: u64) -> usize
     ensures { λ r. ⌜ LaidWithin 21 (decimalOf n ++ ascii ",") (now (out .entry)) at (now (out .exit)) r ⌝ }
 {
     let end = text::decimal(out, at, n);
-    text::words(out, end, b",")
+    common::lay(out, end, b",")
 }
 
 // The line of one number.
@@ -43,9 +43,9 @@ fn number_line(out: &mut [u8], at: usize, key: &[u8], present: bool, n: u64) -> 
     requires { ⌜ (at + 31 ≤ length (now out)) × (length (now key) ≤ 10) ⌝ }
     ensures { λ r. ⌜ LaidWithin 31 (under (now (key .entry)) (orDash present (decimalOf n))) (now (out .entry)) at (now (out .exit)) r ⌝ }
 {
-    let after = text::words(out, at, key);
+    let after = common::lay(out, at, key);
     let end = number(out, after, present, n);
-    text::words(out, end, b"\n")
+    common::lay(out, end, b"\n")
 }
 
 // The line of one number that is present where the flag at this place of the header is set.
@@ -93,11 +93,11 @@ fn ack_line(out: &mut [u8], at: usize, flags: u16, a: Ack) -> usize
     ensures { λ r. ⌜ LaidWithin 109 (under (ascii "ack=") (orDash (ackIn flags) (ackText a))) (now (out .entry)) at (now (out .exit)) r ⌝ }
 {
     if bits::flag(flags, wire::ACK) {
-        let after = text::words(out, at, b"ack=");
+        let after = common::lay(out, at, b"ack=");
         let end = ack_text(out, after, a);
-        return text::words(out, end, b"\n");
+        return common::lay(out, end, b"\n");
     }
-    text::words(out, at, b"ack=-\n")
+    common::lay(out, at, b"ack=-\n")
 }
 
 // The line of the DelayAckInfo payload.
@@ -106,11 +106,11 @@ fn delay_line(out: &mut [u8], at: usize, flags: u16, y: Delay) -> usize
     ensures { λ r. ⌜ LaidWithin 48 (under (ascii "delay=") (orDash (delayIn flags) (delayText y))) (now (out .entry)) at (now (out .exit)) r ⌝ }
 {
     if bits::flag(flags, wire::DELAYACKINFO) {
-        let after = text::words(out, at, b"delay=");
+        let after = common::lay(out, at, b"delay=");
         let end = delay_text(out, after, y);
-        return text::words(out, end, b"\n");
+        return common::lay(out, end, b"\n");
     }
-    text::words(out, at, b"delay=-\n")
+    common::lay(out, at, b"delay=-\n")
 }
 
 // The line of the ACKVEC payload.
@@ -119,11 +119,11 @@ fn vector_line(out: &mut [u8], at: usize, flags: u16, x: Vector) -> usize
     ensures { λ r. ⌜ LaidWithin 67 (under (ascii "vec=") (orDash (vectorIn flags) (vectorText x))) (now (out .entry)) at (now (out .exit)) r ⌝ }
 {
     if bits::flag(flags, wire::ACKVEC) {
-        let after = text::words(out, at, b"vec=");
+        let after = common::lay(out, at, b"vec=");
         let end = vector_text(out, after, x);
-        return text::words(out, end, b"\n");
+        return common::lay(out, end, b"\n");
     }
-    text::words(out, at, b"vec=-\n")
+    common::lay(out, at, b"vec=-\n")
 }
 
 // The lines up to logwindow=.

@@ -1,25 +1,13 @@
 // Numbers as text: what the listing and the traces write.
-ghost use mathlib.Core.Path.{_≡_};
 ghost use Prim.Native.Nat.{_+_, _≤_};
 ghost use lib.ListN.{length};
-ghost use Rattle.common.specs.Put.{putOf};
+ghost use Rattle.common.specs.Laid.{Laid};
 ghost use Rattle.text.specs.Decimal.{decimalOf};
 
-// Copies s over out from place at on; the result is one past its last byte.
-pub fn words(out: &mut [u8], at: usize, s: &[u8]) -> usize
-    requires { ⌜ at + length (now s) ≤ length (now out) ⌝ }
-    ensures result { λ r. ⌜ r ≡ at + length (now (s .entry)) ⌝ }
-    ensures bytes { λ r. ⌜ now (out .exit) ≡ putOf (now (out .entry)) at (now (s .entry)) ⌝ }
-{
-    common::put(out, at, s);
-    at + s.len()
-}
-
-// Writes n in decimal, without leading zeros, from place at on; the result is one past its last digit.
+// Writes n in decimal, without leading zeros, from place at on; the result is the next free place.
 pub fn decimal(out: &mut [u8], at: usize, n: u64) -> usize
     requires { ⌜ at + 20 ≤ length (now out) ⌝ }
-    ensures result { λ r. ⌜ r ≡ at + length (decimalOf n) ⌝ }
-    ensures bytes { λ r. ⌜ now (out .exit) ≡ putOf (now (out .entry)) at (decimalOf n) ⌝ }
+    ensures { λ r. ⌜ Laid (now (out .entry)) at (decimalOf n) (now (out .exit)) r ⌝ }
 {
     // The digits are found from the last to the first, so they fill the array from its end.
     let mut digits = [0u8; 20];
@@ -32,5 +20,5 @@ pub fn decimal(out: &mut [u8], at: usize, n: u64) -> usize
     }
     i -= 1;
     digits[i] = 48 + rest as u8;
-    words(out, at, &digits[i..])
+    common::lay(out, at, &digits[i..])
 }

@@ -8,18 +8,18 @@ use Rattle.listing.proofs.item.Tie as tie
 decimal-requires : tie.Need-decimal-requires
 decimal-requires c κs = search needs
 
-slice-aggregate-words : tie.Need-slice-aggregate-words
-slice-aggregate-words c = search needs
+slice-aggregate-lay : tie.Need-slice-aggregate-lay
+slice-aggregate-lay c = search needs
 
-words-requires : tie.Need-words-requires
-words-requires c κs = omega (arith, within-decimal (omega arith) (c .before .before .before .before .decimal .ensures) .room)
+lay-requires : tie.Need-lay-requires
+lay-requires c κs = omega (arith, within-decimal (omega arith) (c .before .before .before .before .decimal .ensures) .room)
 
 same-length : tie.Need-same-length
 same-length c = search needs
 
 returns : tie.Need-returns
-returns c = within-then (c .before .before .before .before .before .before .before .before .before .before .pre) (within-decimal (omega arith) (c .before .before .before .before .before .before .before .decimal .ensures)) (λ h. within 1 (omega arith) (c .before .before .words .ensures))
+returns c = within-then (c .before .before .before .before .before .before .before .before .before .before .pre) (within-decimal (omega arith) (c .before .before .before .before .before .before .before .decimal .ensures)) (λ h. within 1 (omega arith) (c .before .before .lay .ensures))
 
 pub item-spec : {M : Type 1} → statement M
 item-spec =
-    tie.close (tie.spec decimal-requires slice-aggregate-words words-requires same-length returns)
+    tie.close (tie.spec decimal-requires slice-aggregate-lay lay-requires same-length returns)

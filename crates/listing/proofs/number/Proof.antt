@@ -14,17 +14,17 @@ same-length c = search needs
 returns : tie.Need-returns
 returns c = within-present _ _ (c .before .before .before .before .if1 .taken) (within-decimal (omega arith) (c .before .before .decimal .ensures))
 
-slice-aggregate-words : tie.Need-slice-aggregate-words
-slice-aggregate-words c = search needs
+slice-aggregate-lay : tie.Need-slice-aggregate-lay
+slice-aggregate-lay c = search needs
 
-words-requires : tie.Need-words-requires
-words-requires c κs = search needs
+lay-requires : tie.Need-lay-requires
+lay-requires c κs = search needs
 
 same-length-2 : tie.Need-same-length-2
 same-length-2 c = search needs
 
 returns-2 : tie.Need-returns-2
-returns-2 c = within-absent _ _ (c .before .before .before .before .before .if1 .left) (within 20 (omega arith) (c .before .before .words .ensures))
+returns-2 c = within-absent _ _ (c .before .before .before .before .before .if1 .left) (within 20 (omega arith) (c .before .before .lay .ensures))
 
 pub number-spec : {M : Type 1} → statement M
 number-spec =
@@ -33,7 +33,7 @@ number-spec =
     decimal-requires
     same-length
     returns
-    slice-aggregate-words
-    words-requires
+    slice-aggregate-lay
+    lay-requires
     same-length-2
     returns-2)

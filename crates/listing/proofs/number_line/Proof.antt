@@ -5,31 +5,31 @@ use Rattle.listing.proofs.Runs.{within, within-line}
 use Rattle.listing.proofs.number_line.Statement.{statement}
 use Rattle.listing.proofs.number_line.Tie as tie
 
-words-requires : tie.Need-words-requires
-words-requires c κs = search needs
+lay-requires : tie.Need-lay-requires
+lay-requires c κs = search needs
 
 number-requires : tie.Need-number-requires
 number-requires c κs = search needs
 
-slice-aggregate-words : tie.Need-slice-aggregate-words
-slice-aggregate-words c = search needs
+slice-aggregate-lay : tie.Need-slice-aggregate-lay
+slice-aggregate-lay c = search needs
 
-words-requires-2 : tie.Need-words-requires-2
-words-requires-2 c κs = search needs
+lay-requires-2 : tie.Need-lay-requires-2
+lay-requires-2 c κs = search needs
 
 same-length : tie.Need-same-length
 same-length c = search needs
 
 returns : tie.Need-returns
-returns c = within-line (c .before .before .before .before .before .before .before .before .before .before .before .before .before .before .before .pre .0) (within 10 (omega arith) (c .before .before .before .before .before .before .before .before .before .before .before .words .ensures)) (c .before .before .before .before .before .before .before .number .ensures) (within 1 (omega arith) (c .before .before .words2 .ensures))
+returns c = within-line (c .before .before .before .before .before .before .before .before .before .before .before .before .before .before .before .pre .0) (within 10 (omega arith) (c .before .before .before .before .before .before .before .before .before .before .before .lay .ensures)) (c .before .before .before .before .before .before .before .number .ensures) (within 1 (omega arith) (c .before .before .lay2 .ensures))
 
 pub number-line-spec : {M : Type 1} → statement M
 number-line-spec =
     tie.close
     (tie.spec
-    words-requires
+    lay-requires
     number-requires
-    slice-aggregate-words
-    words-requires-2
+    slice-aggregate-lay
+    lay-requires-2
     same-length
     returns)

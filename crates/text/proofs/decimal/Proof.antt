@@ -6,7 +6,7 @@ use mathlib.Core.List.{List, [], _∷_, _++_, append-assoc, append-nil}
 use mathlib.Core.Path.{_≡_, refl, sym, _∙_, ap}
 use lib.ListN.{length, take, drop, set, length-set, length-take, length-drop}
 use lib.Seq.{take-all, drop-cons, getD-set-same, drop-set-lt}
-use Rattle.common.specs.Put.{putOf}
+use Rattle.common.specs.Laid.{laid-as}
 use Rattle.text.specs.Decimal.{decimalOf}
 use Rattle.text.specs.Laws.{decimal-small, decimal-more, decimal-longer, decimal-some, decimal-length}
 use Rattle.text.proofs.decimal.Statement.{statement}
@@ -82,30 +82,30 @@ add-digits-2 c = search needs
 array-write-digits-2 : tie.Need-array-write-digits-2 Inv-loop μ-loop
 array-write-digits-2 c = omega (arith, decimal-some (c .before .loop .rest))
 
-sub-words : tie.Need-sub-words Inv-loop μ-loop
-sub-words c = omega arith
+sub-lay : tie.Need-sub-lay Inv-loop μ-loop
+sub-lay c = omega arith
 
-part-words-start : tie.Need-part-words-start Inv-loop μ-loop
-part-words-start c = search needs
+part-lay-start : tie.Need-part-lay-start Inv-loop μ-loop
+part-lay-start c = search needs
 
-part-words-end : tie.Need-part-words-end Inv-loop μ-loop
-part-words-end c =
+part-lay-end : tie.Need-part-lay-end Inv-loop μ-loop
+part-lay-end c =
     let l = c .before .before .before .loop in
     omega (arith, length-set (l .digits) (l .i - 1) (48 + l .rest))
 
-words-requires : tie.Need-words-requires Inv-loop μ-loop
-words-requires c κs = simp (length-take, length-drop, length-set) (omega arith)
+lay-requires : tie.Need-lay-requires Inv-loop μ-loop
+lay-requires c κs = simp (length-take, length-drop, length-set) (omega arith)
 
 same-length : tie.Need-same-length Inv-loop μ-loop
 same-length c = search needs
 
 returns : tie.Need-returns Inv-loop μ-loop
 returns c =
-    let w = c .before .before .words .ensures in
+    let w = c .before .before .lay .ensures in
     let l = c .before .before .before .before .before .before .before .loop in
     let a = c .before .before .before .before .before .before .before .before .before .args in
     let e = stored-last (l .digits) (l .i) (l .rest) (omega (arith, decimal-some (l .rest))) (omega arith) (l .inv .1) (omega arith) ∙ l .inv .3 in
-    (w .0 ∙ ap (λ (s : List ℕ). a .at + length s) e, w .1 ∙ ap (putOf (a .out .now) (a .at)) e)
+    laid-as e w
 
 pub decimal-spec : {M : Type 1} → statement M
 decimal-spec =
@@ -124,9 +124,9 @@ decimal-spec =
     cast-digits-2
     add-digits-2
     array-write-digits-2
-    sub-words
-    part-words-start
-    part-words-end
-    words-requires
+    sub-lay
+    part-lay-start
+    part-lay-end
+    lay-requires
     same-length
     returns)
