@@ -4,3 +4,4 @@ pub mod Laid
 pub mod Order
 pub mod Answer
 pub mod Choice
+pub mod Only

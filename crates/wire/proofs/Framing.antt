@@ -12,7 +12,7 @@ use Rattle.common.specs.Laid.{Laid}
 use Rattle.wire.specs.declared.Values.{Values}
 use Rattle.wire.specs.Frame.{swapped, framed, prefixFor, padded}
 use Rattle.wire.specs.Write.{frontBytes, backBytes, packetBytes, datagramOf}
-use Rattle.wire.proofs.Places.{swapped-length}
+use Rattle.wire.specs.Round.Framing.{swapped-length}
 use Rattle.wire.proofs.Widths.{packet-parts}
 use Rattle.wire.proofs.Sizes.{packet-length}
 

@@ -8,12 +8,9 @@ use native.Mathlib.Omega.{arith}
 use lib.ListN.{length, getD, set, length-set, List·getD-eq-default}
 use lib.Seq.{getD-set-same, getD-set-other}
 use Rattle.wire.specs.Frame.{swapped, byteAt}
+use Rattle.wire.specs.Round.Framing.{swapped-length}
 use Rattle.wire.specs.Flags.{ackIn, dataIn, vectorIn, aoaIn, overheadIn, delayIn}
 use Rattle.wire.specs.Layout.{sized, ackSize, timedAt, vectorSize, ackEnd, overheadEnd, delayEnd, aoaEnd, numberEnd, vectorEnd, channelEnd, Places}
-
-pub swapped-length : (d : List ℕ) → length (swapped d) ≡ length d
-unfolding swapped
-swapped-length d = simp length-set
 
 pub byte-first : (d : List ℕ) → 8 ≤ length d → getD d 7 0 ≡ byteAt (swapped d) 0
 unfolding swapped

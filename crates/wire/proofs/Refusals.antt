@@ -15,7 +15,7 @@ use Rattle.wire.specs.Frame.{swapped, byteAt, reservedIn, typeIn, droppe
 use Rattle.wire.specs.Flags.{ackIn, vectorIn, dataIn, outside, both}
 use Rattle.wire.specs.Layout.{flagsOf, channelEnd, packetOf}
 use Rattle.wire.specs.Read.{readPayloads, readPacket, readOf}
-use Rattle.wire.proofs.Places.{swapped-length}
+use Rattle.wire.specs.Round.Framing.{swapped-length}
 
 -- the payloads
 

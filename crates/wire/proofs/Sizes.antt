@@ -4,15 +4,15 @@ use mathlib.Core.Bool.{Bool, true, false}
 use mathlib.Core.List.{List, [], _∷_, _++_}
 use mathlib.Core.Path.{_≡_, refl, sym, _∙_, ap}
 use native.Mathlib.Omega.{arith}
-use lib.ListN.{length, replicate, length-append, length-replicate}
+use lib.ListN.{length, length-append}
 use Rattle.wire.specs.declared.Values.{Values}
-use Rattle.wire.specs.Frame.{framed, prefixFor, padded}
+use Rattle.wire.specs.Frame.{prefixFor}
 use Rattle.wire.specs.declared.Ack.{Ack}
 use Rattle.wire.specs.declared.Vector.{Vector}
 use Rattle.wire.specs.Flags.{ackIn, dataIn, vectorIn, aoaIn, overheadIn, delayIn, both}
 use Rattle.wire.specs.Layout.{sized, stampSize}
 use Rattle.wire.specs.Write.{given, wordBytes, ackBytes, ackWide, vectorWide, delayBytes, vectorBytes, frontBytes, backBytes, packetBytes, datagramOf}
-use Rattle.wire.proofs.Places.{swapped-length}
+use Rattle.wire.specs.Round.Framing.{framed-length}
 use Rattle.wire.proofs.Widths.{ack-fits, vector-fits, ack-length, vector-length, front-length, back-length, packet-parts}
 
 -- bytes where they are flagged, by their length
@@ -52,12 +52,8 @@ packet-sum v a x b i o d w k q s1 s2 s3 s4 s5 s6 s7 t ei eo ed ew ek eq et e1 e2
 -- a short packet is padded to 7
 pub datagram-length : (v : Values) (a x b : List ℕ)
     → length (datagramOf v a x b) ≡ 1 + length (packetBytes v a x b) + (7 - length (packetBytes v a x b))
-unfolding datagramOf framed padded
-datagram-length v a x b =
-    let p = packetBytes v a x b in
-    let l = length-append (packetBytes v a x b) (replicate (7 - length (packetBytes v a x b)) 0) in
-    let r = length-replicate {A = ℕ} (7 - length (packetBytes v a x b)) 0 in
-    swapped-length (prefixFor (packetBytes v a x b) ∷ (packetBytes v a x b ++ replicate (7 - length (packetBytes v a x b)) 0)) ∙ omega arith
+unfolding datagramOf
+datagram-length v a x b = framed-length (prefixFor (packetBytes v a x b)) (packetBytes v a x b) ∙ omega arith
 
 -- a body that is too long makes a datagram that is too long
 pub body-long : (v : Values) (a x b : List ℕ) (n : ℕ) → n ≡ sized (dataIn (v .flags)) (length b) → 1232 < n → 1232 < length (datagramOf v a x b)

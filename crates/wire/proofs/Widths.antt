@@ -10,17 +10,10 @@ use borrow.Author.Tests.{leb-false, eqb-true, not-false}
 use Rattle.wire.specs.declared.Ack.{Ack}
 use Rattle.wire.specs.declared.Vector.{Vector}
 use Rattle.wire.specs.declared.Values.{Values}
-use Rattle.wire.specs.Flags.{ackIn, dataIn, vectorIn, aoaIn, overheadIn, delayIn, both, either}
+use Rattle.wire.specs.Flags.{ackIn, dataIn, vectorIn, aoaIn, overheadIn, delayIn, both}
 use Rattle.wire.specs.Layout.{stampSize}
+use Rattle.wire.specs.Round.Tests.{neither}
 use Rattle.wire.specs.Write.{given, wordBytes, ackBytes, ackWide, delayBytes, vectorBytes, vectorWide, stampBytes, frontBytes, backBytes, packetBytes}
-
-pub both-false : (a b : Bool) → both a b ≡ false → a ≡ true → b ≡ false
-both-false true b h t = h
-both-false false b h t = absurd (let z : _≡_ {A = Bool} false true = t in let w : _≡_ {A = ℕ} 0 1 = cc in omega arith)
-
-pub either-false : (a b : Bool) → either a b ≡ false → (a ≡ false) × (b ≡ false)
-either-false true b h = absurd (let w : _≡_ {A = ℕ} 0 1 = cc in omega arith)
-either-false false b h = (refl, h)
 
 pub record AckFits (a : Ack) (n : ℕ) : Type 0 where
   pub time : a .time < 2 ^ 24
@@ -30,9 +23,9 @@ pub record AckFits (a : Ack) (n : ℕ) : Type 0 where
 
 pub ack-fits : (a : Ack) (n : ℕ) → ackWide a n ≡ false → AckFits a n
 ack-fits a n h =
-    let (t, h1) = either-false (leb (2 ^ 24) (a .time)) _ h in
-    let (k, h2) = either-false (leb 16 (a .count)) _ h1 in
-    let (s, m) = either-false (leb 16 (a .scale)) (not (eqb (a .count) n)) h2 in
+    let (t, h1) = neither (leb (2 ^ 24) (a .time)) _ h in
+    let (k, h2) = neither (leb 16 (a .count)) _ h1 in
+    let (s, m) = neither (leb 16 (a .scale)) (not (eqb (a .count) n)) h2 in
     record {
       time = leb-false (2 ^ 24) (a .time) t;
       count = leb-false 16 (a .count) k;
@@ -47,8 +40,8 @@ pub record VectorFits (x : Vector) (n : ℕ) : Type 0 where
 
 pub vector-fits : (x : Vector) (n : ℕ) → vectorWide x n ≡ false → VectorFits x n
 vector-fits x n h =
-    let (s, h1) = either-false (leb 128 (x .size)) _ h in
-    let (t, m) = either-false (both (x .timed) (leb (2 ^ 24) (x .time))) (not (eqb (x .size) n)) h1 in
+    let (s, h1) = neither (leb 128 (x .size)) _ h in
+    let (t, m) = neither (both (x .timed) (leb (2 ^ 24) (x .time))) (not (eqb (x .size) n)) h1 in
     record {
       size = leb-false 128 (x .size) s;
       time = t;

@@ -6,7 +6,8 @@ use Prim.Native.Nat.{ℕ}
 use Rattle.common.specs.Laid.{laid-as, lays, done, next}
 use Rattle.wire.specs.Write.{ackBytes}
 use Rattle.wire.proofs.Given.{given-room, laid-on, laid-off}
-use Rattle.wire.proofs.Widths.{both-false, ack-fits, ack-length}
+use Rattle.wire.specs.Round.Tests.{not-both}
+use Rattle.wire.proofs.Widths.{ack-fits, ack-length}
 use borrow.Author.Needs.{needs}
 use Rattle.wire.proofs.writer.put_ack.Statement.{statement}
 use Rattle.wire.proofs.writer.put_ack.Tie as tie
@@ -15,14 +16,14 @@ put-word-requires : tie.Need-put-word-requires
 put-word-requires c κs = omega (arith, given-room _ (ackBytes (c .before .before .before .before .args .ack) (c .before .before .before .before .args .additions .now)) _ _ (c .before .if1 .taken) (c .before .before .before .before .pre .0), ack-length (c .before .before .before .before .args .ack) (c .before .before .before .before .args .additions .now))
 
 put-three-requires : tie.Need-put-three-requires
-put-three-requires c κs = let f = ack-fits (c .before .before .before .before .before .before .before .before .args .ack) _ (both-false (c .before .before .before .before .before .before .before .before .args .flag) _ (c .before .before .before .before .before .before .before .before .pre .1) (c .before .before .before .before .before .if1 .taken)) in
+put-three-requires c κs = let f = ack-fits (c .before .before .before .before .before .before .before .before .args .ack) _ (not-both (c .before .before .before .before .before .before .before .before .args .flag) _ (c .before .before .before .before .before .before .before .before .pre .1) (c .before .before .before .before .before .if1 .taken)) in
     (omega (arith, given-room _ (ackBytes (c .before .before .before .before .before .before .before .before .args .ack) (c .before .before .before .before .before .before .before .before .args .additions .now)) _ _ (c .before .before .before .before .before .if1 .taken) (c .before .before .before .before .before .before .before .before .pre .0), ack-length (c .before .before .before .before .before .before .before .before .args .ack) (c .before .before .before .before .before .before .before .before .args .additions .now)), f .time)
 
 lay-byte-requires : tie.Need-lay-byte-requires
 lay-byte-requires c κs = omega (arith, given-room _ (ackBytes (c .before .before .before .before .before .before .before .before .before .before .before .before .args .ack) (c .before .before .before .before .before .before .before .before .before .before .before .before .args .additions .now)) _ _ (c .before .before .before .before .before .before .before .before .before .if1 .taken) (c .before .before .before .before .before .before .before .before .before .before .before .before .pre .0), ack-length (c .before .before .before .before .before .before .before .before .before .before .before .before .args .ack) (c .before .before .before .before .before .before .before .before .before .before .before .before .args .additions .now))
 
 halves-requires : tie.Need-halves-requires
-halves-requires c κs = let f = ack-fits (c .before .before .before .before .before .before .before .before .before .before .before .before .before .before .before .before .args .ack) _ (both-false (c .before .before .before .before .before .before .before .before .before .before .before .before .before .before .before .before .args .flag) _ (c .before .before .before .before .before .before .before .before .before .before .before .before .before .before .before .before .pre .1) (c .before .before .before .before .before .before .before .before .before .before .before .before .before .if1 .taken)) in
+halves-requires c κs = let f = ack-fits (c .before .before .before .before .before .before .before .before .before .before .before .before .before .before .before .before .args .ack) _ (not-both (c .before .before .before .before .before .before .before .before .before .before .before .before .before .before .before .before .args .flag) _ (c .before .before .before .before .before .before .before .before .before .before .before .before .before .before .before .before .pre .1) (c .before .before .before .before .before .before .before .before .before .before .before .before .before .if1 .taken)) in
     (f .count, f .scale)
 
 lay-byte-requires-2 : tie.Need-lay-byte-requires-2

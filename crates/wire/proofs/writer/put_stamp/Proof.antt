@@ -6,13 +6,13 @@ use borrow.Author.Tests.{leb-false}
 use Rattle.common.specs.Laid.{laid-then}
 use Rattle.wire.specs.Write.{threeBytes}
 use Rattle.wire.proofs.Given.{given-room, laid-on, laid-off}
-use Rattle.wire.proofs.Widths.{both-false}
+use Rattle.wire.specs.Round.Tests.{not-both}
 use borrow.Author.Needs.{needs}
 use Rattle.wire.proofs.writer.put_stamp.Statement.{statement}
 use Rattle.wire.proofs.writer.put_stamp.Tie as tie
 
 put-three-requires : tie.Need-put-three-requires
-put-three-requires c κs = (omega (arith, given-room _ (threeBytes (c .before .before .before .args .vector .time) ++ (c .before .before .before .args .vector .gap ∷ [])) _ _ (c .before .if1 .taken) (c .before .before .before .pre .0)), leb-false (2 ^ 24) (c .before .before .before .args .vector .time) (both-false (c .before .before .before .args .vector .timed) _ (c .before .before .before .pre .1) (c .before .if1 .taken)))
+put-three-requires c κs = (omega (arith, given-room _ (threeBytes (c .before .before .before .args .vector .time) ++ (c .before .before .before .args .vector .gap ∷ [])) _ _ (c .before .if1 .taken) (c .before .before .before .pre .0)), leb-false (2 ^ 24) (c .before .before .before .args .vector .time) (not-both (c .before .before .before .args .vector .timed) _ (c .before .before .before .pre .1) (c .before .if1 .taken)))
 
 lay-byte-requires : tie.Need-lay-byte-requires
 lay-byte-requires c κs = omega (arith, given-room _ (threeBytes (c .before .before .before .before .before .before .before .args .vector .time) ++ (c .before .before .before .before .before .before .before .args .vector .gap ∷ [])) _ _ (c .before .before .before .before .before .if1 .taken) (c .before .before .before .before .before .before .before .pre .0))

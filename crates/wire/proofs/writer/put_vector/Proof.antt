@@ -6,7 +6,8 @@ use Prim.Native.Nat.{ℕ}
 use Rattle.common.specs.Laid.{laid-as, lays, done, next}
 use Rattle.wire.specs.Write.{vectorBytes}
 use Rattle.wire.proofs.Given.{given-room, laid-on, laid-off}
-use Rattle.wire.proofs.Widths.{both-false, vector-fits, vector-length, stamp-length}
+use Rattle.wire.specs.Round.Tests.{not-both}
+use Rattle.wire.proofs.Widths.{vector-fits, vector-length, stamp-length}
 use borrow.Author.Needs.{needs}
 use Rattle.wire.proofs.writer.put_vector.Statement.{statement}
 use Rattle.wire.proofs.writer.put_vector.Tie as tie
@@ -15,13 +16,13 @@ put-word-requires : tie.Need-put-word-requires
 put-word-requires c κs = omega (arith, given-room _ (vectorBytes (c .before .before .before .before .args .vector) (c .before .before .before .before .args .coded .now)) _ _ (c .before .if1 .taken) (c .before .before .before .before .pre .0), vector-length (c .before .before .before .before .args .vector) (c .before .before .before .before .args .coded .now), stamp-length (c .before .before .before .before .args .vector))
 
 size-byte-requires : tie.Need-size-byte-requires
-size-byte-requires c κs = (vector-fits (c .before .before .before .before .before .before .before .before .args .vector) _ (both-false (c .before .before .before .before .before .before .before .before .args .flag) _ (c .before .before .before .before .before .before .before .before .pre .1) (c .before .before .before .before .before .if1 .taken))) .size
+size-byte-requires c κs = (vector-fits (c .before .before .before .before .before .before .before .before .args .vector) _ (not-both (c .before .before .before .before .before .before .before .before .args .flag) _ (c .before .before .before .before .before .before .before .before .pre .1) (c .before .before .before .before .before .if1 .taken))) .size
 
 lay-byte-requires : tie.Need-lay-byte-requires
 lay-byte-requires c κs = omega (arith, given-room _ (vectorBytes (c .before .before .before .before .before .before .before .before .before .args .vector) (c .before .before .before .before .before .before .before .before .before .args .coded .now)) _ _ (c .before .before .before .before .before .before .if1 .taken) (c .before .before .before .before .before .before .before .before .before .pre .0), vector-length (c .before .before .before .before .before .before .before .before .before .args .vector) (c .before .before .before .before .before .before .before .before .before .args .coded .now), stamp-length (c .before .before .before .before .before .before .before .before .before .args .vector))
 
 put-stamp-requires : tie.Need-put-stamp-requires
-put-stamp-requires c κs = (omega (arith, given-room _ (vectorBytes (c .before .before .before .before .before .before .before .before .before .before .before .before .before .args .vector) (c .before .before .before .before .before .before .before .before .before .before .before .before .before .args .coded .now)) _ _ (c .before .before .before .before .before .before .before .before .before .before .if1 .taken) (c .before .before .before .before .before .before .before .before .before .before .before .before .before .pre .0), vector-length (c .before .before .before .before .before .before .before .before .before .before .before .before .before .args .vector) (c .before .before .before .before .before .before .before .before .before .before .before .before .before .args .coded .now), stamp-length (c .before .before .before .before .before .before .before .before .before .before .before .before .before .args .vector)), (vector-fits (c .before .before .before .before .before .before .before .before .before .before .before .before .before .args .vector) _ (both-false (c .before .before .before .before .before .before .before .before .before .before .before .before .before .args .flag) _ (c .before .before .before .before .before .before .before .before .before .before .before .before .before .pre .1) (c .before .before .before .before .before .before .before .before .before .before .if1 .taken))) .time)
+put-stamp-requires c κs = (omega (arith, given-room _ (vectorBytes (c .before .before .before .before .before .before .before .before .before .before .before .before .before .args .vector) (c .before .before .before .before .before .before .before .before .before .before .before .before .before .args .coded .now)) _ _ (c .before .before .before .before .before .before .before .before .before .before .if1 .taken) (c .before .before .before .before .before .before .before .before .before .before .before .before .before .pre .0), vector-length (c .before .before .before .before .before .before .before .before .before .before .before .before .before .args .vector) (c .before .before .before .before .before .before .before .before .before .before .before .before .before .args .coded .now), stamp-length (c .before .before .before .before .before .before .before .before .before .before .before .before .before .args .vector)), (vector-fits (c .before .before .before .before .before .before .before .before .before .before .before .before .before .args .vector) _ (not-both (c .before .before .before .before .before .before .before .before .before .before .before .before .before .args .flag) _ (c .before .before .before .before .before .before .before .before .before .before .before .before .before .pre .1) (c .before .before .before .before .before .before .before .before .before .before .if1 .taken))) .time)
 
 lay-requires : tie.Need-lay-requires
 lay-requires c κs = omega (arith, given-room _ (vectorBytes (c .before .before .before .before .before .before .before .before .before .before .before .before .before .before .before .before .before .args .vector) (c .before .before .before .before .before .before .before .before .before .before .before .before .before .before .before .before .before .args .coded .now)) _ _ (c .before .before .before .before .before .before .before .before .before .before .before .before .before .before .if1 .taken) (c .before .before .before .before .before .before .before .before .before .before .before .before .before .before .before .before .before .pre .0), vector-length (c .before .before .before .before .before .before .before .before .before .before .before .before .before .before .before .before .before .args .vector) (c .before .before .before .before .before .before .before .before .before .before .before .before .before .before .before .before .before .args .coded .now), stamp-length (c .before .before .before .before .before .before .before .before .before .before .before .before .before .before .before .before .before .args .vector))
