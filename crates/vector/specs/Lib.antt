@@ -4,4 +4,3 @@ pub mod Rule
 pub mod Laws
 pub mod Reading
 pub mod ReadsBack
-pub mod Cases

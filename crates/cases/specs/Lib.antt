@@ -1,0 +1,4 @@
+-- The worked examples of document 01, and datagrams whose bytes the documents give.
+
+pub mod Cases
+pub mod KnownBytes
