@@ -2,8 +2,3 @@
 mod Masks
 mod Places
 mod Refusals
-mod Given
-mod Widths
-mod Sizes
-mod Judging
-mod Framing

@@ -10,8 +10,6 @@ use Rattle.wire.specs.declared.Ack.{Ack}
 use Rattle.wire.specs.declared.Delay.{Delay}
 use Rattle.wire.specs.declared.Vector.{Vector}
 use Rattle.wire.specs.declared.Values.{Values}
-use Rattle.wire.specs.declared.writer.Judged.{Judged}
-use Rattle.wire.specs.declared.writer.Judged.the-variants.{Refused, Fits}
 use Rattle.wire.specs.Frame.{framed, prefixFor, padded}
 use Rattle.wire.specs.Flags.{ackIn, dataIn, vectorIn, aoaIn, overheadIn, delayIn, outside, both, either}
 
@@ -91,28 +89,3 @@ writeTests v additions vector body room =
 -- the number that writing into room for so many bytes answers
 unfoldable pub writeAnswer : Values → List ℕ → List ℕ → List ℕ → ℕ → ℕ
 writeAnswer v additions vector body room = first (writeTests v additions vector body room)
-
--- the same in two parts: the header with the payloads up to AckOfAcks, and the payloads from DataHeader on
-unfoldable pub frontBytes : Values → List ℕ → List ℕ
-frontBytes v additions =
-    joined
-    (headerBytes v
-    ∷ given (ackIn (v .flags)) (ackBytes (v .ack) additions)
-    ∷ given (overheadIn (v .flags)) (v .overhead ∷ [])
-    ∷ given (delayIn (v .flags)) (delayBytes (v .delay))
-    ∷ given (aoaIn (v .flags)) (wordBytes (v .aoa))
-    ∷ [])
-
-unfoldable pub backBytes : Values → List ℕ → List ℕ → List ℕ
-backBytes v vector body =
-    joined
-    (given (dataIn (v .flags)) (wordBytes (v .number))
-    ∷ given (vectorIn (v .flags)) (vectorBytes (v .vector) vector)
-    ∷ given (dataIn (v .flags)) (wordBytes (v .channel) ++ body)
-    ∷ [])
-
--- judging a write: the refusal, or the packet's length
-unfoldable pub judgedOf : Values → List ℕ → List ℕ → List ℕ → ℕ → Judged
-judgedOf v additions vector body room =
-    cond (eqb (writeAnswer v additions vector body room) 0) (Fits (length (packetBytes v additions vector body)))
-    (Refused (writeAnswer v additions vector body room))

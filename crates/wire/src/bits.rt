@@ -1,6 +1,6 @@
 // Prefix byte and header flags, taken apart by shifts and masks; callers see the arithmetic.
 ghost use mathlib.Core.Path.{_≡_};
-ghost use mathlib.Core.Bool.{Bool, cond};
+ghost use mathlib.Core.Bool.{cond};
 ghost use Prim.Native.Nat.{_+_, _*_, _%_, _/_, _<_, _≤_};
 ghost use lib.Dec.{eqb};
 ghost use Rattle.wire.specs.Frame.{reservedIn, typeIn, droppedBy};

@@ -1,9 +1,8 @@
 // One RDP-UDP2 datagram: its framing (prefix, short length, the exchange of two bytes), its header and its payloads.
-// `reader::read` takes a datagram apart, `writer::write` puts one together. This crate knows no record and no window; numbers
+// `reader::read` takes a datagram apart; the crate `writer` puts one together. This crate knows no record and no window; numbers
 // are the 16-bit fields that stand on the wire.
 pub mod bits;
 pub mod reader;
-pub mod writer;
 
 // The longest and the shortest datagram, and where the packet's header stands behind the prefix.
 pub const LONGEST: usize = 1232;
