@@ -1,12 +1,12 @@
--- `vector::write` meets its contract. The buffer is tested against the vector's size before a byte is written, so a refusal leaves it as it is.
+-- `coder::write` meets its contract. The buffer is tested against the vector's size before a byte is written, so a refusal leaves it as it is.
 -- Assumes nothing.
 use mathlib.Core.Path.{_∙_, ap}
 use native.Mathlib.Omega.{arith}
 use borrow.Author.Needs.{needs}
 use Rattle.common.specs.declared.Written.the-variants.{Wrote}
 use Rattle.vector.specs.Laws.{write-refused, write-done}
-use Rattle.vector.proofs.write.Statement.{statement}
-use Rattle.vector.proofs.write.Tie as tie
+use Rattle.coder.proofs.write.Statement.{statement}
+use Rattle.coder.proofs.write.Tie as tie
 
 size-requires : tie.Need-size-requires
 size-requires c κs = search needs

@@ -1,4 +1,4 @@
--- `vector::byte_at` meets its contract. At most seven states alike are written as a map, and more as a run: the two ways of the definition.
+-- `coder::byte_at` meets its contract. At most seven states alike are written as a map, and more as a run: the two ways of the definition.
 -- Assumes nothing.
 use Prim.Native.Nat.{ℕ, _+_, _*_}
 use mathlib.Core.Bool.{false}
@@ -6,9 +6,9 @@ use mathlib.Core.Path.{_∙_, ap}
 use native.Mathlib.Omega.{arith}
 use lib.ListN.{getD}
 use borrow.Author.Needs.{needs}
-use Rattle.vector.proofs.Turns.{bit-small, run-fits, byte-of-map, byte-of-run}
-use Rattle.vector.proofs.byte_at.Statement.{statement}
-use Rattle.vector.proofs.byte_at.Tie as tie
+use Rattle.coder.proofs.Turns.{bit-small, run-fits, byte-of-map, byte-of-run}
+use Rattle.coder.proofs.byte_at.Statement.{statement}
+use Rattle.coder.proofs.byte_at.Tie as tie
 
 run-at-requires : tie.Need-run-at-requires
 run-at-requires c κs = search needs

@@ -1,4 +1,4 @@
--- `vector::fill` meets its contract. The bytes still to be laid from place i on, over what stands, give the whole; each turn lays one of them.
+-- `coder::fill` meets its contract. The bytes still to be laid from place i on, over what stands, give the whole; each turn lays one of them.
 -- Assumes nothing.
 use Prim.Native.Nat.{_+_, _-_, _≤_}
 use mathlib.Core.Path.{_≡_, refl, ap}
@@ -6,10 +6,10 @@ use native.Mathlib.Omega.{arith}
 use lib.ListN.{length, drop}
 use borrow.Author.Needs.{needs}
 use Rattle.common.specs.Put.{putOf}
 use Rattle.vector.specs.Rule.{vectorOf}
-use Rattle.vector.proofs.Turns.{after-further, vector-place, fill-room, fill-more, fill-end}
-use Rattle.vector.proofs.fill.Statement.{statement}
-use Rattle.vector.proofs.fill.Tie as tie
+use Rattle.coder.proofs.Turns.{after-further, vector-place, fill-room, fill-more, fill-end}
+use Rattle.coder.proofs.fill.Statement.{statement}
+use Rattle.coder.proofs.fill.Tie as tie
 
 abbrev Inv-loop : tie.InvT-loop
 Inv-loop states out₀ j₀ i₀ out j i =

@@ -1,4 +1,4 @@
--- `vector::map_at` meets its contract. The map so far is the map of the states from k on; a turn puts the state before them in front.
+-- `coder::map_at` meets its contract. The map so far is the map of the states from k on; a turn puts the state before them in front.
 -- Assumes nothing.
 use Prim.Native.Nat.{_+_, _-_, _≤_}
 use mathlib.Core.Bool.{false}
@@ -6,10 +6,10 @@ use mathlib.Core.Path.{_≡_, refl, _∙_}
 use native.Mathlib.Omega.{arith}
 use lib.ListN.{getD, take, drop}
 use borrow.Author.Needs.{needs}
 use Rattle.vector.specs.Rule.{mapOf}
-use Rattle.vector.proofs.Turns.{bit-small, map-small, map-more, map-end}
-use Rattle.vector.proofs.map_at.Statement.{statement}
-use Rattle.vector.proofs.map_at.Tie as tie
+use Rattle.coder.proofs.Turns.{bit-small, map-small, map-more, map-end}
+use Rattle.coder.proofs.map_at.Statement.{statement}
+use Rattle.coder.proofs.map_at.Tie as tie
 
 abbrev Inv-loop : tie.InvT-loop
 Inv-loop states i m₀ k₀ m k = (k ≤ 7) × (m ≡ mapOf (take (7 - k) (drop (i + k) states)))

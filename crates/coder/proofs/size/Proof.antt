@@ -1,14 +1,14 @@
--- `vector::size` meets its contract. The bytes counted, and those of the vector from place i on, give the whole vector.
+-- `coder::size` meets its contract. The bytes counted, and those of the vector from place i on, give the whole vector.
 -- Assumes nothing.
 use Prim.Native.Nat.{_+_, _-_, _≤_}
 use mathlib.Core.Path.{_≡_}
 use native.Mathlib.Omega.{arith}
 use lib.ListN.{length, drop}
 use borrow.Author.Needs.{needs}
 use Rattle.vector.specs.Rule.{vectorOf}
-use Rattle.vector.proofs.Turns.{after-further, size-more, size-end}
-use Rattle.vector.proofs.size.Statement.{statement}
-use Rattle.vector.proofs.size.Tie as tie
+use Rattle.coder.proofs.Turns.{after-further, size-more, size-end}
+use Rattle.coder.proofs.size.Statement.{statement}
+use Rattle.coder.proofs.size.Tie as tie
 
 abbrev Inv-loop : tie.InvT-loop
 Inv-loop states n₀ i₀ n i = (i ≤ length states) × (n ≤ i) × (n + length (vectorOf (drop i states)) ≡ length (vectorOf states))

@@ -1,14 +1,14 @@
--- `vector::run_at` meets its contract. The n states seen, and those alike that follow, give the run; it ends at 63, at the range's end, or at another state.
+-- `coder::run_at` meets its contract. The n states seen, and those alike that follow, give the run; it ends at 63, at the range's end, or at another state.
 -- Assumes nothing.
 use Prim.Native.Nat.{_+_, _-_, _≤_, min}
 use mathlib.Core.Path.{_≡_}
 use native.Mathlib.Omega.{arith}
 use lib.ListN.{length, drop}
 use borrow.Author.Needs.{needs}
 use Rattle.vector.specs.Rule.{alike, runOf}
-use Rattle.vector.proofs.Turns.{run-start, run-more, run-other, run-end, run-full}
-use Rattle.vector.proofs.run_at.Statement.{statement}
-use Rattle.vector.proofs.run_at.Tie as tie
+use Rattle.coder.proofs.Turns.{run-start, run-more, run-other, run-end, run-full}
+use Rattle.coder.proofs.run_at.Statement.{statement}
+use Rattle.coder.proofs.run_at.Tie as tie
 
 abbrev Inv-loop : tie.InvT-loop
 Inv-loop states i s n₀ n =

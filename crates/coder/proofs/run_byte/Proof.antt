@@ -1,12 +1,12 @@
--- `vector::run_byte` meets its contract. The two top bits stand above the six of the length, so that `|` is a sum.
+-- `coder::run_byte` meets its contract. The two top bits stand above the six of the length, so that `|` is a sum.
 -- Assumes nothing.
 use Prim.Native.Nat.{ℕ, _+_, _*_, _%_}
 use mathlib.Core.Path.{_≡_, _∙_, ap}
 use native.Mathlib.Omega.{arith}
 use lib.Bits.{bitOr, or-shifted}
 use borrow.Author.Needs.{needs}
-use Rattle.vector.proofs.run_byte.Statement.{statement}
-use Rattle.vector.proofs.run_byte.Tie as tie
+use Rattle.coder.proofs.run_byte.Statement.{statement}
+use Rattle.coder.proofs.run_byte.Tie as tie
 
 add-result : tie.Need-add-result
 add-result c = search needs

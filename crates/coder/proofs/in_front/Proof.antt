@@ -1,11 +1,11 @@
--- `vector::in_front` meets its contract. The map moved up by a bit is even, so that the state fits in below it.
+-- `coder::in_front` meets its contract. The map moved up by a bit is even, so that the state fits in below it.
 -- Assumes nothing.
 use Prim.Native.Nat.{ℕ, _*_, _%_}
 use mathlib.Core.Path.{_≡_, _∙_, ap}
 use native.Mathlib.Omega.{arith}
 use lib.Bits.{bitOr, or-shifted}
-use Rattle.vector.proofs.in_front.Statement.{statement}
-use Rattle.vector.proofs.in_front.Tie as tie
+use Rattle.coder.proofs.in_front.Statement.{statement}
+use Rattle.coder.proofs.in_front.Tie as tie
 
 returns : tie.Need-returns
 returns c = let m = c .args .m in

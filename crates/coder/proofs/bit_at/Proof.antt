@@ -1,12 +1,12 @@
--- `vector::bit_at` meets its contract. Past the range the state there is missing, so the bit is 0; within it the bit is the state.
+-- `coder::bit_at` meets its contract. Past the range the state there is missing, so the bit is 0; within it the bit is the state.
 -- Assumes nothing.
 use mathlib.Core.Path.{sym, ap}
 use native.Mathlib.Omega.{arith}
 use borrow.Author.Needs.{needs}
 use Rattle.vector.specs.Rule.{one}
-use Rattle.vector.proofs.Turns.{bit-past}
-use Rattle.vector.proofs.bit_at.Statement.{statement}
-use Rattle.vector.proofs.bit_at.Tie as tie
+use Rattle.coder.proofs.Turns.{bit-past}
+use Rattle.coder.proofs.bit_at.Statement.{statement}
+use Rattle.coder.proofs.bit_at.Tie as tie
 
 sub-if1 : tie.Need-sub-if1
 sub-if1 c = search needs

@@ -1,10 +1,10 @@
--- `vector::place_after` meets its contract. A run ends within the range, so only a map can reach past its end.
+-- `coder::place_after` meets its contract. A run ends within the range, so only a map can reach past its end.
 -- Assumes nothing.
 use native.Mathlib.Omega.{arith}
 use borrow.Author.Needs.{needs}
-use Rattle.vector.proofs.Turns.{run-within, after-run, after-last, after-map}
-use Rattle.vector.proofs.place_after.Statement.{statement}
-use Rattle.vector.proofs.place_after.Tie as tie
+use Rattle.coder.proofs.Turns.{run-within, after-run, after-last, after-map}
+use Rattle.coder.proofs.place_after.Statement.{statement}
+use Rattle.coder.proofs.place_after.Tie as tie
 
 run-at-requires : tie.Need-run-at-requires
 run-at-requires c κs = search needs
