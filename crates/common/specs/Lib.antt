@@ -5,3 +5,7 @@ pub mod Order
 pub mod Answer
 pub mod Choice
 pub mod Only
+pub mod Every
+pub mod EveryLaws
+pub mod Facts
+pub mod Parts

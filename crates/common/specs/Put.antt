@@ -3,10 +3,10 @@ use Prim.Native.Nat.{ℕ, _+_, _-_, _≤_, _<_}
 use mathlib.Core.List.{List, [], _∷_, _++_, append-assoc, append-nil}
 use mathlib.Core.Path.{_≡_, refl, sym, _∙_, ap}
 use native.Mathlib.Omega.{arith}
-use native.Mathlib.Nat.{add-zero}
+use native.Mathlib.Nat.{add-zero, zero-add, suc-add}
 use native.Mathlib.Numerals.{add-one}
-use lib.ListN.{length, take, drop, set, length-append, length-take, length-drop, take-append-drop}
-use lib.Seq.{set-split, drop-append-add, drop-drop, length-take-le, take-at}
+use lib.ListN.{length, take, drop, set, length-set, length-append, length-take, length-drop, take-append-drop}
+use lib.Seq.{set-split, set-append-left, drop-append-add, drop-drop, length-take-le, take-at}
 
 -- d with the bytes of b from place at on; all else is d's
 unfoldable pub putOf : List ℕ → ℕ → List ℕ → List ℕ
@@ -51,3 +51,20 @@ put-front d b = let e : 0 + length b ≡ length b = omega arith in rw e refl
 abbrev pub joined : List (List ℕ) → List ℕ
 joined [] = []
 joined (b ∷ bs) = b ++ joined bs
+
+-- a byte set within what was put
+pub put-set : (d : List ℕ) (at : ℕ) (b : List ℕ) (k y : ℕ) → k < length b → at + length b ≤ length d
+    → set (putOf d at b) (at + k) y ≡ putOf d at (set b k y)
+unfolding putOf
+put-set d at b k y h r =
+    let l : length (take at d) ≡ at = length-take-le at d (omega arith) in
+    let m : at + k < length (take at d ++ b) = omega (arith, length-append (take at d) b) in
+    let e : set (take at d ++ b) (at + k) y ≡ take at d ++ set b k y =
+    ap (λ (n : ℕ). set (take at d ++ b) (n + k) y) (sym l) ∙ set-append-right (take at d) b k y in
+    set-append-left (take at d ++ b) (drop (at + length b) d) (at + k) y m
+    ∙ ap (λ (x : List ℕ). x ++ drop (at + length b) d) e
+    ∙ ap (λ (n : ℕ). take at d ++ set b k y ++ drop (at + n) d) (sym (length-set b k y))
+  where
+    set-append-right : (xs ys : List ℕ) (k y : ℕ) → set (xs ++ ys) (length xs + k) y ≡ xs ++ set ys k y
+    set-append-right [] ys k y = ap (λ (n : ℕ). set ys n y) (zero-add k)
+    set-append-right (x ∷ xs) ys k y = ap (λ (n : ℕ). set (x ∷ (xs ++ ys)) n y) (suc-add (length xs) k) ∙ ap (λ (r : List ℕ). x ∷ r) (set-append-right xs ys k y)

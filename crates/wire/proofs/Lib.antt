@@ -2,3 +2,4 @@
 mod Masks
 mod Places
 mod Refusals
+mod Parts

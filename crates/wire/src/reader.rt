@@ -4,9 +4,10 @@ ghost use mathlib.Core.Bool.{cond, not};
 ghost use Prim.Native.Nat.{_+_, _-_, _*_, _%_, _≤_, _<_};
 ghost use lib.ListN.{length};
 ghost use lib.Dec.{ltb};
+ghost use Rattle.common.specs.Put.{putOf};
 ghost use Rattle.wire.specs.Frame.{swapped, byteAt, wordAt, threeAt};
 ghost use Rattle.wire.specs.Flags.{both, flagIn};
-ghost use Rattle.wire.specs.Layout.{sized, ackAt, noAck, delayAt, noDelay, vectorAt, noVector, vectorSize, stampSize, timedAt, valuesOf, Places};
+ghost use Rattle.wire.specs.Layout.{sized, ackAt, noAck, delayAt, noDelay, vectorAt, noVector, vectorSize, stampSize, timedAt, valuesOf, Places, partOf};
 ghost use Rattle.wire.specs.Read.{readPayloads, readPacket, readOf};
 use crate::Ack;
 use crate::Delay;
@@ -336,4 +337,18 @@ pub fn read(d: &[u8]) -> Reading
     }
     let end = n - bits::dropped(prefix);
     read_packet(d, end)
+}
+
+// Copies the n bytes that stand at a place of a datagram over dst from place to on. The datagram's first byte stands at place 7.
+pub fn copy_part(dst: &mut [u8], to: usize, d: &[u8], at: usize, n: usize)
+    requires { ⌜ (8 ≤ length (now d)) × (1 ≤ at) × (at + n ≤ length (now d)) × (to + n ≤ length (now dst)) ⌝ }
+    ensures { λ r. ⌜ now (dst .exit) ≡ putOf (now (dst .entry)) to (partOf (now (d .entry)) at n) ⌝ }
+{
+    common::put(dst, to, &d[at..at + n]);
+    if at <= 7 {
+        let k = 7 - at;
+        if k < n {
+            dst[to + k] = d[0];
+        }
+    }
 }

@@ -1,0 +1,11 @@
+-- Laws that the functions' proofs cite.
+
+mod Every
+mod Consistency
+mod Moving
+mod Fields
+mod Judging
+mod Block
+mod Told
+mod Applying
+mod Receiving

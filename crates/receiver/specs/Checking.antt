@@ -1,0 +1,39 @@
+-- The parts of a record's consistency that functions of their own answer, over numbers and one place.
+use Prim.Native.Nat.{ℕ, _-_}
+use mathlib.Core.Bool.{Bool, cond}
+use mathlib.Core.List.{List, [], _∷_}
+use lib.Dec.{eqb, leb, ltb}
+use Rattle.common.specs.Every.{every, implies}
+use Rattle.receiver.specs.declared.Hold.{Hold}
+use Rattle.receiver.specs.declared.Receiver.{Receiver}
+use Rattle.receiver.specs.Record.{highest, isMarked, isHeld, markAt}
+use Rattle.receiver.specs.Consistent.{isFlag}
+
+-- the firsts, base, end and due in their ranges
+abbrev pub boundTests : ℕ → ℕ → ℕ → ℕ → ℕ → List Bool
+boundTests firstdata firstchannel base end due =
+    leb firstdata 65535
+    ∷ leb firstchannel 65535
+    ∷ leb firstdata base
+    ∷ leb base 4294967296
+    ∷ leb firstdata end
+    ∷ leb end 4294967296
+    ∷ leb firstchannel due
+    ∷ leb due 4294967296
+    ∷ []
+
+unfoldable pub boundsOk : ℕ → ℕ → ℕ → ℕ → ℕ → Bool
+boundsOk firstdata firstchannel base end due = every (boundTests firstdata firstchannel base end due)
+
+-- what stands at the place of number n
+unfoldable pub markFine : ℕ → ℕ → ℕ → Bool
+markFine m n end = every (isFlag m ∷ implies (isMarked m) (ltb n end) ∷ [])
+
+-- what stands at the place of block c
+unfoldable pub holdFine : Hold → ℕ → Bool
+holdFine h c =
+    cond (isHeld h) (every (leb (h .length) 1225 ∷ leb c highest ∷ [])) (every (eqb (h .held) 0 ∷ eqb (h .length) 0 ∷ []))
+
+-- "or above base with end − 1 unmarked"
+unfoldable pub endStands : ℕ → Receiver → Bool
+endStands w r = implies (ltb (r .base .0) (r .end .0)) (isMarked (markAt w r (r .end .0 - 1)))

@@ -1,0 +1,24 @@
+-- The receiver (document 01, "Receiver"): its record, what makes one inconsistent, and what each call answers and leaves; then its
+-- theorems, that every call leaves it consistent and that the order of arrival does not matter; last what only the code's contracts and
+-- the theorems' laws need.
+pub mod Record
+pub mod Fresh
+pub mod Consistent
+pub mod Packet
+pub mod Take
+pub mod Receive
+pub mod Acknowledge
+pub mod Determined
+pub mod History
+pub mod Set
+pub mod StaysConsistent
+pub mod AnyOrder
+pub mod CanBeMet
+pub mod Checking
+pub mod Marks
+pub mod Judge
+pub mod Judged
+pub mod Facts
+pub mod Blocks
+pub mod Keeping
+pub mod Order

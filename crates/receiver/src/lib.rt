@@ -1,0 +1,100 @@
+// The receiver's half of an endpoint: which data numbers have arrived, and which blocks wait to be taken.
+// A record goes in by value and comes back by value; blocks stand in a store that the host lends, 1,225 bytes to a place.
+ghost use mathlib.Core.Path.{_≡_};
+ghost use Rattle.receiver.specs.Record.{state};
+ghost use Rattle.receiver.specs.Fresh.{freshOf};
+ghost use Rattle.receiver.specs.Receive.{receiveAnswer, receiveOf};
+
+pub mod checking;
+pub mod marks;
+pub mod packet;
+
+use numbers::ChannelNumber;
+use numbers::DataNumber;
+use wire::Reading;
+
+// The size of the store, and of a block's place in it.
+pub const STORE: usize = 39200;
+
+pub const PLACE: usize = 1225;
+
+// A place for a block.
+pub struct Hold {
+    // 1 where a block is held, and else 0.
+    pub held: u8,
+    // The block's length; 0 where none is held.
+    pub length: u16,
+}
+
+// The receiver's record.
+pub struct Receiver {
+    // The first number of each kind.
+    pub firstdata: DataNumber,
+    pub firstchannel: ChannelNumber,
+    // The lowest data number neither received nor waived.
+    pub base: DataNumber,
+    // One more than the highest data number received, at first the first number.
+    pub end: DataNumber,
+    // The next channel number due.
+    pub due: ChannelNumber,
+    // Which data numbers from base on are received: 1 where one is, and else 0. Number n has place n modulo the window.
+    pub marks: [u8; 32],
+    // Which blocks from due on are held. Block c has place c modulo the window.
+    pub holds: [Hold; 32],
+}
+
+// What receiving a datagram answers: document 01's number, and the record after the call.
+pub struct Received {
+    pub answer: u8,
+    pub receiver: Receiver,
+}
+
+// A fresh record, from the first number of each kind.
+pub fn opened(firstdata: u16, firstchannel: u16) -> Receiver
+    ensures { λ r. ⌜ r ≡ freshOf 32 firstdata firstchannel ⌝ }
+{
+    let data = firstdata as u64;
+    let channel = firstchannel as u64;
+    Receiver {
+        firstdata: DataNumber(data),
+        firstchannel: ChannelNumber(channel),
+        base: DataNumber(data),
+        end: DataNumber(data),
+        due: ChannelNumber(channel),
+        marks: [0; 32],
+        holds: [Hold { held: 0, length: 0 }; 32],
+    }
+}
+
+// Receives one datagram. Refused with 13, then as reading it, then with 7.
+pub fn receive(r: Receiver, store: &mut [u8], d: &[u8]) -> Received
+    ensures answer { λ x. ⌜ x .answer ≡ receiveAnswer 32 32 (state r (now (store .entry))) (now (d .entry)) ⌝ }
+    ensures record { λ x. ⌜ x .receiver ≡ receiveOf 32 32 (state r (now (store .entry))) (now (d .entry)) .receiver ⌝ }
+    ensures bytes { λ x. ⌜ now (store .exit) ≡ receiveOf 32 32 (state r (now (store .entry))) (now (d .entry)) .store ⌝ }
+{
+    if !checking::sound(r, store.len()) {
+        return Received {
+            answer: 13,
+            receiver: r,
+        };
+    }
+    match wire::reader::read(d) {
+        Reading::Refused(n) => Received {
+            answer: n,
+            receiver: r,
+        },
+        Reading::Dummy => Received {
+            answer: 0,
+            receiver: r,
+        },
+        Reading::Read(p) => {
+            let values = p.values;
+            let a = packet::judge(r, values);
+            let q = packet::apply(r, store, d, p, a);
+            Received {
+                answer: packet::number(a),
+                receiver: q,
+            }
+        }
+    }
+}

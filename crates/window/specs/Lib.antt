@@ -1,0 +1,6 @@
+-- A window over numbers that slides up.
+pub mod Window
+pub mod Places
+pub mod Free
+pub mod Sliding
+pub mod Members

@@ -1,0 +1,64 @@
+-- Numbers and their places. These laws alone look into what "modulo" is.
+use Prim.Native.Nat.{ℕ, zero, suc, _+_, _*_, _%_, _/_, _≤_, _<_}
+use mathlib.Core.Bool.{cond}
+use mathlib.Core.List.{List, [], _∷_}
+use mathlib.Core.Logic.{⊎-elim}
+use mathlib.Core.Path.{_≡_, refl, sym, _∙_, ap}
+use native.Mathlib.Nat.{mod-lt, div-add-mod', mul-le-mul-right, suc-mul, mul-add-mod-self-right, mod-eq-of-lt, le-of-suc-le-suc, not-suc-le-zero}
+use native.Mathlib.Omega.{arith}
+use lib.Dec.{ltb}
+use lib.ListN.{length, getD}
+use borrow.Author.Tests.{lt-ltb, le-ltb}
+use Rattle.common.specs.Facts.{lt-or-ge}
+
+-- Of numbers less than w apart, only equal ones have the same place.
+place-once : (w n m : ℕ) → n ≤ m → m < n + w → n % w ≡ m % w → n ≡ m
+place-once w n m le lt e =
+    let dn = div-add-mod' n w in
+    let dm = div-add-mod' m w in
+    ⊎-elim
+    (λ q. let k = mul-le-mul-right w q in let s = suc-mul (n / w) w in omega arith)
+    (λ q. let k = mul-le-mul-right w q in omega arith)
+    (lt-or-ge (n / w) (m / w))
+
+pub place-same : (w b n m : ℕ) → b ≤ n → n < b + w → b ≤ m → m < b + w → n % w ≡ m % w → n ≡ m
+place-same w b n m ln un lm um e =
+    ⊎-elim
+    (λ lt. place-once w n m (omega arith) (omega arith) e)
+    (λ ge. sym (place-once w m n ge (omega arith) (sym e)))
+    (lt-or-ge n m)
+
+-- the number from b on whose place is i
+unfoldable pub numberAt : ℕ → ℕ → ℕ → ℕ
+numberAt w b i = cond (ltb i (b % w)) (suc (b / w) * w + i) (b / w * w + i)
+
+pub number-at : (w b i : ℕ) → i < w → (b ≤ numberAt w b i) × (numberAt w b i < b + w) × (numberAt w b i % w ≡ i)
+unfolding numberAt
+number-at w b i h =
+    let db = div-add-mod' b w in
+    let s = suc-mul (b / w) w in
+    let l : b % w < w = mod-lt b (omega arith) in
+    ⊎-elim
+    (λ lt. rw (lt-ltb i (b % w) lt) (omega arith, omega arith, mul-add-mod-self-right (suc (b / w)) w i ∙ mod-eq-of-lt h))
+    (λ ge. rw (le-ltb i (b % w) ge) (omega arith, omega arith, mul-add-mod-self-right (b / w) w i ∙ mod-eq-of-lt h))
+    (lt-or-ge i (b % w))
+
+-- the list of f 0 to f (n − 1)
+unfoldable pub tabulate : {A : Type 0} → ℕ → (ℕ → A) → List A
+tabulate zero f = []
+tabulate (suc n) f = f zero ∷ tabulate n (λ i. f (suc i))
+
+pub length-tabulate : {A : Type 0} (n : ℕ) (f : ℕ → A) → length (tabulate n f) ≡ n
+unfolding tabulate
+length-tabulate zero f = refl
+length-tabulate (suc n) f = ap suc (length-tabulate n (λ i. f (suc i)))
+
+pub getD-tabulate : {A : Type 0} (n : ℕ) (f : ℕ → A) (i : ℕ) (d : A) → i < n → getD (tabulate n f) i d ≡ f i
+unfolding tabulate
+getD-tabulate zero f i d h = absurd (not-suc-le-zero h)
+getD-tabulate (suc n) f zero d h = refl
+getD-tabulate (suc n) f (suc i) d h = getD-tabulate n (λ j. f (suc j)) i d (le-of-suc-le-suc h)
+
+-- cap places, of which w are in use, hold f of the numbers from b on
+unfoldable pub spread : {A : Type 0} → A → ℕ → ℕ → ℕ → (ℕ → A) → List A
+spread blank w cap b f = tabulate cap (λ i. cond (ltb i w) (f (numberAt w b i)) blank)
