@@ -1,25 +1,20 @@
 -- Applying what a packet brings, a law for each way out.
 use Prim.Native.Nat.{ℕ, _+_, _*_, _%_, _≤_, _<_, max}
-use mathlib.Core.Bool.{Bool, true, false, cond, not}
-use mathlib.Core.List.{List, []}
-use mathlib.Core.Option.{Option, none, some}
+use mathlib.Core.Bool.{Bool, true, false, not}
+use mathlib.Core.List.{List}
 use mathlib.Core.Path.{_≡_, refl, sym, _∙_, ap}
-use native.Mathlib.Omega.{arith}
-use lib.Dec.{eqb, ltb}
+use lib.Dec.{eqb}
 use lib.ListN.{length, getD}
-use borrow.Author.Tests.{lt-ltb, le-ltb, ltb-false, eqb-true}
+use borrow.Author.Tests.{lt-ltb, le-ltb}
 use Rattle.common.specs.Put.{putOf}
-use Rattle.common.specs.Order.{first, first-pass}
-use Rattle.wire.specs.declared.Values.{Values}
 use Rattle.wire.specs.declared.Packet.{Packet as Taken}
-use Rattle.wire.specs.Flags.{dataIn, aoaIn}
 use Rattle.wire.specs.Same.{bodyIn}
 use Rattle.window.specs.Window.{Win, lifted, slid}
 use Rattle.receiver.specs.declared.Receiver.{Receiver}
 use Rattle.receiver.specs.declared.marks.Marks.{Marks}
 use Rattle.receiver.specs.declared.packet.Arrived.{Arrived}
 use Rattle.receiver.specs.declared.packet.Arrived.the-variants.{Refused, Nothing, Waiver, Content}
-use Rattle.receiver.specs.Record.{highest, State, state, isMarked, isHeld, empty, marksOf}
+use Rattle.receiver.specs.Record.{State, state, isMarked, empty, marksOf}
 use Rattle.receiver.specs.Packet.{marked, keeps, receiverAfter, waiverAfter, storeAfter}
 use Rattle.receiver.specs.Receive.{valuesOf}
 use Rattle.receiver.specs.Marks.{winOf, withMarks, notedOf, withHold}

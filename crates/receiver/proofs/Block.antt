@@ -1,17 +1,17 @@
 -- A block that was read stands within its datagram, and has at most 1,225 bytes.
 use Prim.Native.Nat.{ℕ, _+_, _-_, _≤_}
-use mathlib.Core.Bool.{Bool, true}
+use mathlib.Core.Bool.{true}
 use mathlib.Core.List.{List}
-use mathlib.Core.Path.{_≡_, refl, sym, _∙_, ap, subst}
+use mathlib.Core.Path.{_≡_, subst}
 use native.Mathlib.Omega.{arith}
-use lib.ListN.{length, set, length-set, length-take, length-drop}
+use lib.ListN.{length, length-take, length-drop}
 use Rattle.wire.specs.declared.Packet.{Packet}
 use Rattle.wire.specs.declared.Reading.the-variants.{Read}
-use Rattle.wire.specs.Frame.{swapped, endOf}
+use Rattle.wire.specs.Frame.{swapped}
 use Rattle.wire.specs.Flags.{dataIn}
-use Rattle.wire.specs.Layout.{flagsOf, sized, ackEnd, overheadEnd, delayEnd, aoaEnd, numberEnd, vectorEnd, channelEnd, valuesOf, packetOf, partOf}
+use Rattle.wire.specs.Layout.{flagsOf, ackEnd, overheadEnd, delayEnd, aoaEnd, numberEnd, vectorEnd, channelEnd, valuesOf, packetOf, partOf}
 use Rattle.wire.specs.Read.{readOf}
-use Rattle.wire.specs.Same.{bodyIn}
+use Rattle.wire.specs.Round.Framing.{swapped-length}
 use Rattle.wire.specs.Round.Found.{Found, found, read-found}
 
 pub record Within (d : List ℕ) (p : Packet) : Type 0 where
@@ -19,10 +19,6 @@ pub record Within (d : List ℕ) (p : Packet) : Type 0 where
   pub behind : 1 ≤ p .body
   pub inside : p .body + p .bytes ≤ length d
   pub short : p .bytes ≤ 1225
-
-swapped-length : (d : List ℕ) → length (swapped d) ≡ length d
-unfolding swapped
-swapped-length d = simp length-set
 
 -- prefix, header and both numbers stand before it
 before : (p : List ℕ) (f : ℕ) → dataIn f ≡ true → 7 ≤ channelEnd p f

@@ -1,30 +1,22 @@
 -- Judging what a packet's values bring, a law for each way out.
 use Prim.Native.Nat.{ℕ, _+_, _≤_, _<_, max}
-use mathlib.Core.Bool.{Bool, true, false, cond}
+use mathlib.Core.Bool.{Bool, true, false}
 use mathlib.Core.Option.{Option, none, some}
 use mathlib.Core.List.{List, [], _∷_}
 use mathlib.Core.Path.{_≡_, refl, sym, _∙_, ap}
 use native.Mathlib.Omega.{arith}
-use lib.Dec.{eqb, leb, ltb}
+use lib.Dec.{leb, ltb}
 use borrow.Author.Tests.{lt-ltb, le-ltb, lt-leb, le-leb, ne-eqb}
 use Rattle.common.specs.Order.{test, first, first-here, first-skip, first-none}
-use Rattle.numbers.specs.declared.Widened.{Widened}
-use Rattle.numbers.specs.declared.Widened.the-variants.{At as AtNumber, Below}
-use Rattle.numbers.specs.declared.WidenedData.{WidenedData}
-use Rattle.numbers.specs.declared.WidenedData.the-variants.{At as DataAt, Below as DataBelow}
-use Rattle.numbers.specs.declared.WidenedChannel.{WidenedChannel}
-use Rattle.numbers.specs.declared.WidenedChannel.the-variants.{At as ChannelAt, Below as ChannelBelow}
-use Rattle.numbers.specs.Widen.{widenOf, outOf, dataOf, channelOf, fromData, fromChannel}
 use Rattle.wire.specs.declared.Values.{Values}
 use Rattle.wire.specs.Flags.{dataIn, aoaIn}
 use Rattle.receiver.specs.declared.Receiver.{Receiver}
-use Rattle.receiver.specs.declared.packet.Arrived.{Arrived}
 use Rattle.receiver.specs.declared.packet.Arrived.the-variants.{Refused, Nothing, Waiver, Content}
 use Rattle.receiver.specs.declared.packet.Found.{Found}
 use Rattle.receiver.specs.declared.packet.Found.the-variants.{Out, At}
 use Rattle.receiver.specs.Record.{highest}
-use Rattle.receiver.specs.Packet.{Packet, content, waived, aoaHigh, packetAnswer, arrivalAnswer}
-use Rattle.receiver.specs.Receive.{inPlace, onSome, dataNumber, channelNumber, aoaNumber, packetFrom, waiverFrom, arrivalFrom}
+use Rattle.receiver.specs.Packet.{Packet, content, waived, packetAnswer, arrivalAnswer}
+use Rattle.receiver.specs.Receive.{onSome, dataNumber, channelNumber, aoaNumber, packetFrom, waiverFrom, arrivalFrom}
 use Rattle.receiver.specs.Judge.{foundOf, waivedAt, numbersAnswer, judgedFor, judgedOf}
 
 -- A PACKET'S NUMBERS

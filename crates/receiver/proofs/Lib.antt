@@ -9,3 +9,6 @@ mod Block
 mod Told
 mod Applying
 mod Receiving
+mod Taking
+mod Vectors
+mod Acknowledging

@@ -12,7 +12,7 @@ use Rattle.receiver.specs.declared.Receiver.{Receiver}
 use Rattle.receiver.specs.declared.packet.Arrived.{Arrived}
 use Rattle.receiver.specs.Record.{State, state}
 use Rattle.receiver.specs.Consistent.{soundOf}
-use Rattle.receiver.specs.Receive.{valuesAnswer, valuesOf, readAnswer, readInto, receiveAnswer, receiveOf}
+use Rattle.receiver.specs.Receive.{valuesOf, readAnswer, readInto, receiveAnswer, receiveOf}
 use Rattle.receiver.specs.Judge.{numberOf, judgedOf}
 use Rattle.receiver.specs.Judged.{judged-answer}
 

@@ -1,7 +1,7 @@
 -- What an accepted judgement tells: its numbers lie in the full range, and a block comes with DATA only.
-use Prim.Native.Nat.{ℕ, _+_, _≤_, max}
+use Prim.Native.Nat.{ℕ, _≤_}
 use mathlib.Core.Bool.{Bool, true, false, cond}
-use mathlib.Core.List.{List, []}
+use mathlib.Core.List.{[]}
 use mathlib.Core.Option.{Option, none, some}
 use mathlib.Core.Path.{_≡_, refl, sym, _∙_}
 use native.Mathlib.Omega.{arith}
@@ -12,9 +12,9 @@ use Rattle.wire.specs.declared.Values.{Values}
 use Rattle.wire.specs.Flags.{dataIn, aoaIn}
 use Rattle.receiver.specs.declared.Receiver.{Receiver}
 use Rattle.receiver.specs.declared.packet.Arrived.{Arrived}
-use Rattle.receiver.specs.declared.packet.Arrived.the-variants.{Refused, Nothing, Waiver, Content}
+use Rattle.receiver.specs.declared.packet.Arrived.the-variants.{Refused, Waiver, Content}
 use Rattle.receiver.specs.Record.{highest}
-use Rattle.receiver.specs.Packet.{Packet, Arrival, nothing, waiver, content, waived, aoaHigh, packetTests, packetAnswer, arrivalAnswer}
+use Rattle.receiver.specs.Packet.{Packet, Arrival, nothing, waiver, content, waived, aoaHigh, packetAnswer, arrivalAnswer}
 use Rattle.receiver.specs.Receive.{onSome, dataNumber, packetFrom, waiverFrom, arrivalFrom}
 use Rattle.receiver.specs.Judge.{judgedFor, judgedOf, numbersIn}
 

@@ -1,18 +1,18 @@
 -- Judging and then applying is what the definitions of Receive say: the answer's number, and the state that is left.
-use Prim.Native.Nat.{ℕ, zero, suc}
+use Prim.Native.Nat.{ℕ}
 use mathlib.Core.Bool.{Bool, true, false, cond}
 use mathlib.Core.Option.{Option, none, some}
 use mathlib.Core.List.{List, [], _∷_}
 use mathlib.Core.Path.{_≡_, refl, sym, _∙_, ap}
 use lib.Dec.{eqb}
 use Rattle.common.specs.Order.{Test, test, first}
-use Rattle.wire.specs.declared.Values.{Values}
 use Rattle.wire.specs.declared.Packet.{Packet as Taken}
+use Rattle.wire.specs.declared.Values.{Values}
 use Rattle.wire.specs.Flags.{dataIn, aoaIn}
 use Rattle.wire.specs.Same.{bodyIn}
 use Rattle.receiver.specs.declared.Receiver.{Receiver}
 use Rattle.receiver.specs.declared.packet.Arrived.{Arrived}
-use Rattle.receiver.specs.declared.packet.Arrived.the-variants.{Refused, Nothing, Waiver, Content}
+use Rattle.receiver.specs.declared.packet.Arrived.the-variants.{Refused, Waiver, Content}
 use Rattle.receiver.specs.Record.{State}
 use Rattle.receiver.specs.Packet.{Packet, Arrival, nothing, waiver, content, waived, aoaHigh, packetTests, packetAnswer, arrivalAnswer, receiverAfter, waiverAfter, storeAfter, packetOf, arrivalOf}
 use Rattle.receiver.specs.Receive.{onSome, dataNumber, channelNumber, aoaNumber, packetFrom, waiverFrom, arrivalFrom, answerFor, stateFor, valuesAnswer, valuesOf}

@@ -8,6 +8,7 @@ pub mod Packet
 pub mod Take
 pub mod Receive
 pub mod Acknowledge
+pub mod AcknowledgementReadsBack
 pub mod Determined
 pub mod History
 pub mod Set
@@ -18,6 +19,8 @@ pub mod Checking
 pub mod Marks
 pub mod Judge
 pub mod Judged
+pub mod Room
+pub mod AcknowledgeLaws
 pub mod Facts
 pub mod Blocks
 pub mod Keeping

@@ -1,14 +1,21 @@
 // The receiver's half of an endpoint: which data numbers have arrived, and which blocks wait to be taken.
 // A record goes in by value and comes back by value; blocks stand in a store that the host lends, 1,225 bytes to a place.
 ghost use mathlib.Core.Path.{_≡_};
+ghost use Prim.Native.Nat.{_≤_};
+ghost use lib.ListN.{length};
+ghost use Rattle.common.specs.Answer.{writtenOf, leftOf};
 ghost use Rattle.receiver.specs.Record.{state};
 ghost use Rattle.receiver.specs.Fresh.{freshOf};
 ghost use Rattle.receiver.specs.Receive.{receiveAnswer, receiveOf};
+ghost use Rattle.receiver.specs.Acknowledge.{acknowledgeAnswer, acknowledgementOf};
+ghost use Rattle.receiver.specs.Take.{takeAnswer, blockDue, receiverTaken, takenOf};
 
+pub mod acknowledgement;
 pub mod checking;
 pub mod marks;
 pub mod packet;
 
+use common::Written;
 use numbers::ChannelNumber;
 use numbers::DataNumber;
 use wire::Reading;
@@ -46,6 +53,12 @@ pub struct Receiver {
 // What receiving a datagram answers: document 01's number, and the record after the call.
 pub struct Received {
     pub answer: u8,
+    pub receiver: Receiver,
+}
+
+// What taking a block answers, and the record after the call.
+pub struct Taken {
+    pub written: Written,
     pub receiver: Receiver,
 }
 
@@ -97,4 +110,72 @@ pub fn receive(r: Receiver, store: &mut [u8], d: &[u8]) -> Received
             }
         }
     }
+}
+
+// The record without the block due; the next one is due.
+fn freed(r: Receiver) -> Receiver
+    requires { ⌜ r .due .0 ≤ 4294967296 ⌝ }
+    ensures { λ q. ⌜ q ≡ receiverTaken 32 r ⌝ }
+{
+    let due = r.due.0;
+    let at = window::channel_place(due);
+    let next = ChannelNumber(due + 1);
+    let mut q = r;
+    q.holds[at] = Hold { held: 0, length: 0 };
+    q.due = next;
+    q
+}
+
+// Takes the block due: copies it out, and frees its place. Refused with 13, 11, 14.
+pub fn take(r: Receiver, store: &[u8], out: &mut [u8]) -> Taken
+    ensures answer { λ x. ⌜ x .written ≡ writtenOf (takeAnswer 32 32 (state r (now (store .entry))) (length (now (out .entry)))) (blockDue 32 (state r (now (store .entry)))) ⌝ }
+    ensures record { λ x. ⌜ x .receiver ≡ takenOf 32 32 (state r (now (store .entry))) (length (now (out .entry))) ⌝ }
+    ensures bytes { λ x. ⌜ now (out .exit) ≡ leftOf (takeAnswer 32 32 (state r (now (store .entry))) (length (now (out .entry)))) (blockDue 32 (state r (now (store .entry)))) (now (out .entry)) ⌝ }
+{
+    if !checking::sound(r, store.len()) {
+        return Taken {
+            written: Written::Refused(13),
+            receiver: r,
+        };
+    }
+    let at = window::channel_place(r.due.0);
+    let h = r.holds[at];
+    if h.held != 1 {
+        return Taken {
+            written: Written::Refused(11),
+            receiver: r,
+        };
+    }
+    let n = h.length as usize;
+    if out.len() < n {
+        return Taken {
+            written: Written::Refused(14),
+            receiver: r,
+        };
+    }
+    let from = at * PLACE;
+    let k = common::lay(out, 0, &store[from..from + n]);
+    let q = freed(r);
+    Taken {
+        written: Written::Wrote(k),
+        receiver: q,
+    }
+}
+
+// Writes an acknowledgement; no record changes. Refused with 13, 11, 14.
+pub fn acknowledge(r: Receiver, stamp: u32, gap: u8, out: &mut [u8]) -> Written
+    ensures answer { λ x. ⌜ x ≡ writtenOf (acknowledgeAnswer 32 32 r stamp gap (length (now (out .entry)))) (acknowledgementOf 32 r stamp gap) ⌝ }
+    ensures bytes { λ x. ⌜ now (out .exit) ≡ leftOf (acknowledgeAnswer 32 32 r stamp gap (length (now (out .entry)))) (acknowledgementOf 32 r stamp gap) (now (out .entry)) ⌝ }
+{
+    if !checking::consistent(r) {
+        return Written::Refused(13);
+    }
+    let base = r.base.0;
+    if r.end.0 <= base {
+        if base == r.firstdata.0 {
+            return Written::Refused(11);
+        }
+        return acknowledgement::write_ack(r, stamp, gap, out);
+    }
+    acknowledgement::write_vector(r, out)
 }

@@ -1,3 +1,4 @@
+-- `receiver::receive` meets its contract: each way out is an instance of a law of Consistency and Receiving.
 use mathlib.Core.Path.{sym, _∙_}
 use borrow.Author.Tests.{not-true, not-false}
 use Rattle.receiver.proofs.Consistency.{sound-told}
@@ -5,64 +6,44 @@ use Rattle.receiver.proofs.Receiving.{receive-unsound, receive-refused,
 use borrow.Author.Needs.{needs}
 use Rattle.receiver.proofs.receive.Statement.{statement}
 use Rattle.receiver.proofs.receive.Tie as tie
-use Rattle.receiver.proofs.receive.Reads as reads
-use Rattle.receiver.proofs.receive.Lts as lts
-use Rattle.receiver.proofs.checking.sound.Reads as sound-reads
-use Rattle.receiver.proofs.packet.apply.Reads as apply-reads
-use Rattle.receiver.proofs.packet.judge.Reads as judge-reads
-use Rattle.receiver.proofs.packet.number.Reads as number-reads
-use Rattle.wire.proofs.reader.read.Reads as read-reads
 
--- src/lib.rt:74:9
 sound-requires : tie.Need-sound-requires
 sound-requires c κs = search needs
 
--- src/lib.rt:75:9
 returns : tie.Need-returns
 returns c = receive-unsound _ _ _ _ _ _ (c .before .sound .ensures) (not-true _ (c .if1 .taken))
 
--- src/lib.rt:77:11
 read-requires : tie.Need-read-requires
 read-requires c κs = search needs
 
--- src/lib.rt:78:26
 enum-known-n : tie.Need-enum-known-n
 enum-known-n c = search needs
 
--- src/lib.rt:79:27
 enum-told : tie.Need-enum-told
 enum-told c = search needs
 
--- src/lib.rt:80:23
 enum-known-p : tie.Need-enum-known-p
 enum-known-p c = search needs
 
--- src/lib.rt:82:17
 judge-requires : tie.Need-judge-requires
 judge-requires c κs = sound-told _ _ _ (c .before .before .before .before .before .before .sound .ensures) (not-false _ (c .before .before .before .before .before .if1 .left)) .0
 
--- src/lib.rt:83:17
 apply-requires : tie.Need-apply-requires
 apply-requires c κs = let t = sound-told _ _ _ (c .before .before .before .before .before .before .before .before .sound .ensures) (not-false _ (c .before .before .before .before .before .before .before .if1 .left)) in
     (t .0, (t .1, (sym (c .before .before .before .before .before .before .read .ensures) ∙ c .before .before .before .before .p .given .1, c .before .judge .ensures)))
 
--- src/lib.rt:84:32
 number-requires : tie.Need-number-requires
 number-requires c κs = search needs
 
--- src/lib.rt:69:1
 returns-2 : tie.Need-returns-2
 returns-2 c = receive-refused _ _ _ _ _ _ (c .before .before .before .before .before .sound .ensures) (not-false _ (c .before .before .before .before .if1 .left)) _ (c .before .before .before .read .ensures) _ (c .before .n .given .1)
 
--- src/lib.rt:69:1
 returns-3 : tie.Need-returns-3
 returns-3 c = receive-dummy _ _ _ _ _ _ (c .before .before .before .before .sound .ensures) (not-false _ (c .before .before .before .if1 .left)) _ (c .before .before .read .ensures) (c .enum-told .given .1)
 
--- src/lib.rt:69:1
 same-length : tie.Need-same-length
 same-length c = search needs
 
--- src/lib.rt:69:1
 returns-4 : tie.Need-returns-4
 returns-4 c = receive-read _ _ _ _ _ _ (c .before .before .before .before .before .before .before .before .before .before .before .before .sound .ensures) (not-false _ (c .before .before .before .before .before .before .before .before .before .before .before .if1 .left)) _ (c .before .before .before .before .before .before .before .before .before .before .read .ensures) _ _ _ _ _ (c .before .before .before .before .before .before .before .before .p .given .1) (c .before .before .before .before .before .judge .ensures) (c .number .ensures) (c .before .before .before .apply .ensures .0) (c .before .before .before .apply .ensures .1)
 

@@ -1,3 +1,4 @@
+-- `receiver::marks::advance` meets its contract: each way out is an instance of a law of Moving.
 use native.Mathlib.Omega.{arith}
 use Prim.Native.Nat.{_+_, _-_, _≤_}
 use mathlib.Core.Path.{_≡_, refl}
@@ -8,9 +9,6 @@ use Rattle.receiver.specs.Marks.{winOf}
 use Rattle.receiver.proofs.Moving.{slid-more, slid-stop, slid-done}
 use Rattle.receiver.proofs.marks.advance.Statement.{statement}
 use Rattle.receiver.proofs.marks.advance.Tie as tie
-use Rattle.receiver.proofs.marks.advance.Reads as reads
-use Rattle.receiver.proofs.marks.advance.Lts as lts
-use Rattle.window.proofs.data_place.Reads as data-place-reads
 
 abbrev Inv-loop : tie.InvT-loop
 Inv-loop next₀ k₀ next k = (k ≤ 32) × (next .base ≤ next₀ .base + k) × (slid 0 32 isMarked (32 - k) (winOf next) ≡ slid 0 32 isMarked 32 (winOf next₀))
@@ -18,43 +16,33 @@ Inv-loop next₀ k₀ next k = (k ≤ 32) × (next .base ≤ next₀ .base + k) 
 abbrev μ-loop : tie.MeasureT-loop
 μ-loop next₀ k₀ next k = 32 - k
 
--- src/marks.rt:67:5
 loop-holds : tie.Need-loop-holds Inv-loop μ-loop
 loop-holds c = (search needs, search needs, refl)
 
--- src/marks.rt:69:13
 data-place-requires : tie.Need-data-place-requires Inv-loop μ-loop
 data-place-requires c κs = search needs
 
--- src/marks.rt:70:12
 element-copy-out-if1 : tie.Need-element-copy-out-if1 Inv-loop μ-loop
 element-copy-out-if1 c = search needs
 
--- src/marks.rt:71:13
 returns : tie.Need-returns Inv-loop μ-loop
 returns c = slid-stop 32 _ _ _ _ (c .before .before .data-place .ensures .0) (c .if1 .taken) (c .before .before .before .before .loop .inv .2)
 
--- src/marks.rt:73:9
 element-write-next : tie.Need-element-write-next Inv-loop μ-loop
 element-write-next c = search needs
 
--- src/marks.rt:74:21
 add-next : tie.Need-add-next Inv-loop μ-loop
 add-next c = search needs
 
--- src/marks.rt:75:9
 add-k : tie.Need-add-k Inv-loop μ-loop
 add-k c = search needs
 
--- src/marks.rt:67:5
 loop-less : tie.Need-loop-less Inv-loop μ-loop
 loop-less c = search needs
 
--- src/marks.rt:67:5
 loop-again : tie.Need-loop-again Inv-loop μ-loop
 loop-again c = (search needs, search needs, slid-more 32 _ _ _ _ _ (omega arith) (c .before .before .data-place .ensures .0) (c .if1 .left) (c .before .before .before .before .loop .inv .2))
 
--- src/marks.rt:61:1
 returns-2 : tie.Need-returns-2 Inv-loop μ-loop
 returns-2 c = slid-done 32 _ _ _ (omega arith) (c .before .loop .inv .2)
 

@@ -1,3 +1,4 @@
+-- `receiver::marks::lift` meets its contract: each way out is an instance of a law of Moving.
 use native.Mathlib.Omega.{arith}
 use Prim.Native.Nat.{_+_, _-_, _≤_}
 use mathlib.Core.Path.{_≡_, refl}
@@ -7,10 +8,6 @@ use Rattle.receiver.specs.Marks.{winOf}
 use Rattle.receiver.proofs.Moving.{cleared-more, lift-early, lift-done}
 use Rattle.receiver.proofs.marks.lift.Statement.{statement}
 use Rattle.receiver.proofs.marks.lift.Tie as tie
-use Rattle.receiver.proofs.marks.lift.Reads as reads
-use Rattle.receiver.proofs.marks.lift.Lts as lts
-use Rattle.receiver.proofs.marks.larger.Reads as larger-reads
-use Rattle.window.proofs.data_place.Reads as data-place-reads
 
 abbrev Inv-loop : tie.InvT-loop
 Inv-loop v next₀ k₀ next k = (k ≤ 32) × (next .base ≤ next₀ .base + k) × (cleared 0 32 (32 - k) v (winOf next) ≡ cleared 0 32 32 v (winOf next₀))
@@ -18,43 +15,33 @@ Inv-loop v next₀ k₀ next k = (k ≤ 32) × (next .base ≤ next₀ .base + k
 abbrev μ-loop : tie.MeasureT-loop
 μ-loop v next₀ k₀ next k = 32 - k
 
--- src/marks.rt:32:5
 loop-holds : tie.Need-loop-holds Inv-loop μ-loop
 loop-holds c = (search needs, search needs, refl)
 
--- src/marks.rt:35:13
 returns : tie.Need-returns Inv-loop μ-loop
 returns c = (lift-early 32 _ _ _ _ (c .before .before .loop .inv .2) (c .if1 .taken), omega arith)
 
--- src/marks.rt:37:13
 data-place-requires : tie.Need-data-place-requires Inv-loop μ-loop
 data-place-requires c κs = search needs
 
--- src/marks.rt:38:9
 element-write-next : tie.Need-element-write-next Inv-loop μ-loop
 element-write-next c = search needs
 
--- src/marks.rt:39:21
 add-next : tie.Need-add-next Inv-loop μ-loop
 add-next c = search needs
 
--- src/marks.rt:40:9
 add-k : tie.Need-add-k Inv-loop μ-loop
 add-k c = search needs
 
--- src/marks.rt:32:5
 loop-less : tie.Need-loop-less Inv-loop μ-loop
 loop-less c = search needs
 
--- src/marks.rt:32:5
 loop-again : tie.Need-loop-again Inv-loop μ-loop
 loop-again c = (search needs, search needs, cleared-more 32 _ _ _ _ _ _ (omega arith) (c .data-place .ensures .0) (c .before .if1 .left) (c .before .before .before .loop .inv .2))
 
--- src/marks.rt:42:9
 larger-requires : tie.Need-larger-requires Inv-loop μ-loop
 larger-requires c κs = search needs
 
--- src/marks.rt:26:1
 returns-2 : tie.Need-returns-2 Inv-loop μ-loop
 returns-2 c = (lift-done 32 _ _ _ _ _ (c .before .before .loop .inv .2) (omega arith) (c .larger .ensures), omega arith)
 

@@ -1,3 +1,4 @@
+-- `receiver::packet::apply` meets its contract: each way out is an instance of a law of Applying and Block and Consistency and Told.
 use Rattle.receiver.proofs.Consistency.{facts}
 use Rattle.receiver.proofs.Block.{block-within}
 use Rattle.receiver.proofs.Told.{waiver-told, content-told, content-data}
@@ -5,54 +6,39 @@ use Rattle.receiver.proofs.Applying.{applied-refused, applied-nothing, 
 use borrow.Author.Needs.{needs}
 use Rattle.receiver.proofs.packet.apply.Statement.{statement}
 use Rattle.receiver.proofs.packet.apply.Tie as tie
-use Rattle.receiver.proofs.packet.apply.Reads as reads
-use Rattle.receiver.proofs.packet.apply.Lts as lts
-use Rattle.receiver.proofs.packet.content.Reads as content-reads
-use Rattle.receiver.proofs.packet.waive.Reads as waive-reads
 
--- src/packet.rt:271:29
 enum-told : tie.Need-enum-told
 enum-told c = search needs
 
--- src/packet.rt:272:29
 enum-told-2 : tie.Need-enum-told-2
 enum-told-2 c = search needs
 
--- src/packet.rt:273:25
 enum-known-a : tie.Need-enum-known-a
 enum-known-a c = search needs
 
--- src/packet.rt:273:31
 waive-requires : tie.Need-waive-requires
 waive-requires c κs = (facts _ (c .before .before .before .before .before .pre .0) .baseFits, waiver-told _ _ _ _ _ (c .before .before .before .before .before .pre .1 .1 .1) (c .before .a .given .1))
 
--- src/packet.rt:274:26
 enum-known-a-2 : tie.Need-enum-known-a-2
 enum-known-a-2 c = search needs
 
--- src/packet.rt:274:38
 content-requires : tie.Need-content-requires
 content-requires c κs = let t = content-told _ _ _ _ _ _ _ (c .before .before .before .before .before .before .pre .1 .1 .1) (c .before .before .a2 .given .1) in
     let b = block-within _ _ (c .before .before .before .before .before .before .pre .1 .1 .0) (content-data _ _ _ _ _ _ _ (c .before .before .before .before .before .before .pre .1 .1 .1) (c .before .before .a2 .given .1)) in
     ((facts _ (c .before .before .before .before .before .before .pre .0) .baseFits, t .0, t .1, c .before .before .before .before .before .before .pre .1 .0), (b .long, b .behind, b .inside, b .short))
 
--- src/packet.rt:262:1
 returns : tie.Need-returns
 returns c = applied-refused _ _ _ _ _ _ (c .before .before .before .before .pre .1 .1 .1) (c .enum-told .given .1)
 
--- src/packet.rt:262:1
 returns-2 : tie.Need-returns-2
 returns-2 c = applied-nothing _ _ _ _ _ _ (c .before .before .before .before .pre .1 .1 .1) (c .enum-told2 .given .1)
 
--- src/packet.rt:262:1
 returns-3 : tie.Need-returns-3
 returns-3 c = applied-waiver _ _ _ _ _ _ (c .before .before .before .before .before .before .pre .1 .1 .1) _ _ (c .before .before .a .given .1) (c .waive .ensures)
 
--- src/packet.rt:262:1
 same-length : tie.Need-same-length
 same-length c = search needs
 
--- src/packet.rt:262:1
 returns-4 : tie.Need-returns-4
 returns-4 c = applied-content _ _ _ _ _ _ (c .before .before .before .before .before .before .before .before .before .pre .1 .1 .1) _ _ _ _ _ (c .before .before .before .before .before .a2 .given .1) (c .before .before .content .ensures .0) (c .before .before .content .ensures .1)
 

@@ -1,3 +1,4 @@
+-- `receiver::packet::content` meets its contract: each way out is an instance of a law of Applying and Block.
 use mathlib.Core.Path.{sym}
 use Rattle.wire.specs.Layout.{partOf}
 use Rattle.receiver.proofs.Block.{part-length}
@@ -5,51 +6,34 @@ use Rattle.receiver.proofs.Applying.{content-kept, content-repeat}
 use borrow.Author.Needs.{needs}
 use Rattle.receiver.proofs.packet.content.Statement.{statement}
 use Rattle.receiver.proofs.packet.content.Tie as tie
-use Rattle.receiver.proofs.packet.content.Reads as reads
-use Rattle.receiver.proofs.packet.content.Lts as lts
-use Rattle.receiver.proofs.packet.hold.Reads as hold-reads
-use Rattle.receiver.proofs.packet.keeps.Reads as keeps-reads
-use Rattle.receiver.proofs.packet.note.Reads as note-reads
-use Rattle.window.proofs.channel_place.Reads as channel-place-reads
-use Rattle.wire.proofs.reader.copy_part.Reads as copy-part-reads
 
--- src/packet.rt:252:9
 note-requires : tie.Need-note-requires
 note-requires c κs = search needs
 
--- src/packet.rt:253:8
 keeps-requires : tie.Need-keeps-requires
 keeps-requires c κs = search needs
 
--- src/packet.rt:254:13
 channel-place-requires : tie.Need-channel-place-requires
 channel-place-requires c κs = search needs
 
--- src/packet.rt:255:40
 mul-copy-part : tie.Need-mul-copy-part
 mul-copy-part c = search needs
 
--- src/packet.rt:255:9
 copy-part-requires : tie.Need-copy-part-requires
 copy-part-requires c κs = search needs
 
--- src/packet.rt:256:28
 cast-hold : tie.Need-cast-hold
 cast-hold c = search needs
 
--- src/packet.rt:256:9
 hold-requires : tie.Need-hold-requires
 hold-requires c κs = search needs
 
--- src/packet.rt:256:9
 same-length : tie.Need-same-length
 same-length c = search needs
 
--- src/packet.rt:256:9
 returns : tie.Need-returns
 returns c = content-kept 32 _ _ _ _ _ (partOf (c .before .before .before .before .before .before .before .before .before .before .before .args .d .now) (c .before .before .before .before .before .before .before .before .before .before .before .args .body) (c .before .before .before .before .before .before .before .before .before .before .before .args .bytes)) _ _ (c .before .before .before .before .before .before .before .before .note .ensures) (c .before .before .before .before .before .before .before .keeps .ensures) _ _ (c .before .before .before .before .before .before .if1 .taken) (c .before .before .before .before .before .channel-place .ensures .0) (sym (part-length _ _ _ (c .before .before .before .before .before .before .before .before .before .before .before .pre .1 .2))) _ (c .hold .ensures) _ (c .before .before .before .copy-part .ensures)
 
--- src/packet.rt:237:1
 returns-2 : tie.Need-returns-2
 returns-2 c = content-repeat 32 _ _ _ _ _ (partOf (c .before .before .before .before .before .args .d .now) (c .before .before .before .before .before .args .body) (c .before .before .before .before .before .args .bytes)) _ _ (c .before .before .note .ensures) (c .before .keeps .ensures) (c .if1 .left)
 

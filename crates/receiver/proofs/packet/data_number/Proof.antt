@@ -1,37 +1,27 @@
+-- `receiver::packet::data_number` meets its contract: each way out is an instance of a law of Fields.
 use Rattle.receiver.proofs.Fields.{data-out, data-at, data-below}
 use borrow.Author.Needs.{needs}
 use Rattle.receiver.proofs.packet.data_number.Statement.{statement}
 use Rattle.receiver.proofs.packet.data_number.Tie as tie
-use Rattle.receiver.proofs.packet.data_number.Reads as reads
-use Rattle.receiver.proofs.packet.data_number.Lts as lts
-use Rattle.numbers.proofs.DataNumber.widen.Reads as widen-reads
-use Rattle.numbers.proofs.WidenedData.out_of_place.Reads as out-of-place-reads
 
--- src/packet.rt:52:9
 widen-requires : tie.Need-widen-requires
 widen-requires c κs = search needs
 
--- src/packet.rt:53:8
 out-of-place-requires : tie.Need-out-of-place-requires
 out-of-place-requires c κs = search needs
 
--- src/packet.rt:54:9
 returns : tie.Need-returns
 returns c = data-out _ _ _ _ (c .before .before .widen .ensures) (c .before .out-of-place .ensures) (c .if1 .taken)
 
--- src/packet.rt:57:25
 enum-known-wide : tie.Need-enum-known-wide
 enum-known-wide c = search needs
 
--- src/packet.rt:58:34
 enum-told : tie.Need-enum-told
 enum-told c = search needs
 
--- src/packet.rt:46:1
 returns-2 : tie.Need-returns-2
 returns-2 c = data-at _ _ _ _ (c .before .before .before .before .before .widen .ensures) (c .before .before .before .before .out-of-place .ensures) _ (c .before .before .before .if1 .left) (c .before .wide .given .1)
 
--- src/packet.rt:46:1
 returns-3 : tie.Need-returns-3
 returns-3 c = data-below _ _ _ _ (c .before .before .before .before .widen .ensures) (c .before .before .before .out-of-place .ensures) _ (c .enum-told .given .1)
 

@@ -1,77 +1,55 @@
+-- `receiver::packet::judge_content` meets its contract: each way out is an instance of a law of Consistency and Judging.
 use Rattle.receiver.proofs.Consistency.{facts}
 use Rattle.receiver.proofs.Judging.{content-waived, content-number, content-channel, content-refused, content-accepted}
 use borrow.Author.Needs.{needs}
 use Rattle.receiver.proofs.packet.judge_content.Statement.{statement}
 use Rattle.receiver.proofs.packet.judge_content.Tie as tie
-use Rattle.receiver.proofs.packet.judge_content.Reads as reads
-use Rattle.receiver.proofs.packet.judge_content.Lts as lts
-use Rattle.receiver.proofs.packet.channel_number.Reads as channel-number-reads
-use Rattle.receiver.proofs.packet.data_number.Reads as data-number-reads
-use Rattle.receiver.proofs.packet.number_answer.Reads as number-answer-reads
-use Rattle.receiver.proofs.packet.waived_to.Reads as waived-to-reads
-use Rattle.wire.proofs.bits.flag.Reads as flag-reads
 
--- src/packet.rt:119:9
 flag-requires : tie.Need-flag-requires
 flag-requires c κs = search needs
 
--- src/packet.rt:120:24
 waived-to-requires : tie.Need-waived-to-requires
 waived-to-requires c κs = facts _ (c .before .pre .0) .baseFits
 
--- src/packet.rt:120:19
 enum-known-u : tie.Need-enum-known-u
 enum-known-u c = search needs
 
--- src/packet.rt:121:9
 enum-told : tie.Need-enum-told
 enum-told c = search needs
 
--- src/packet.rt:121:9
 returns : tie.Need-returns
 returns c = content-waived _ _ _ (c .before .before .before .before .pre .1) _ _ (c .before .before .before .flag .ensures) (c .before .before .waived-to .ensures) (c .enum-told .given .1)
 
--- src/packet.rt:123:24
 data-number-requires : tie.Need-data-number-requires
 data-number-requires c κs = facts _ (c .before .before .before .before .before .pre .0) .baseFits
 
--- src/packet.rt:123:19
 enum-known-n : tie.Need-enum-known-n
 enum-known-n c = search needs
 
--- src/packet.rt:124:9
 enum-told-2 : tie.Need-enum-told-2
 enum-told-2 c = search needs
 
--- src/packet.rt:124:9
 returns-2 : tie.Need-returns-2
 returns-2 c = content-number _ _ _ (c .before .before .before .before .before .before .before .before .pre .1) _ (c .before .before .data-number .ensures) (c .enum-told2 .given .1)
 
--- src/packet.rt:126:24
 channel-number-requires : tie.Need-channel-number-requires
 channel-number-requires c κs = facts _ (c .before .before .before .before .before .before .before .before .before .pre .0) .dueFits
 
--- src/packet.rt:126:19
 enum-known-c : tie.Need-enum-known-c
 enum-known-c c = search needs
 
--- src/packet.rt:127:9
 enum-told-3 : tie.Need-enum-told-3
 enum-told-3 c = search needs
 
--- src/packet.rt:127:9
 returns-3 : tie.Need-returns-3
 returns-3 c = content-channel _ _ _ (c .before .before .before .before .before .before .before .before .before .before .before .before .pre .1) _ (c .before .before .channel-number .ensures) (c .enum-told3 .given .1)
 
--- src/packet.rt:129:8
 number-answer-requires : tie.Need-number-answer-requires
 number-answer-requires c κs = let f = facts _ (c .before .before .before .before .before .before .before .before .before .before .before .before .before .pre .0) in (f .baseFits, f .dueFits)
 
--- src/packet.rt:130:9
 returns-4 : tie.Need-returns-4
 returns-4 c = content-refused _ _ _ (c .before .before .before .before .before .before .before .before .before .before .before .before .before .before .before .pre .1) _ _ _ _ _ _ _ _ (c .before .before .before .before .before .before .before .before .before .before .before .before .before .before .flag .ensures) (c .before .before .before .before .before .before .before .before .before .before .before .before .before .waived-to .ensures) (c .before .before .before .before .before .before .before .before .before .before .before .u .given .1) (c .before .before .before .before .before .before .before .before .before .data-number .ensures) (c .before .before .before .before .before .before .before .n .given .1) (c .before .before .before .before .before .channel-number .ensures) (c .before .before .before .c .given .1) (c .before .number-answer .ensures) (c .if1 .taken)
 
--- src/packet.rt:114:1
 returns-5 : tie.Need-returns-5
 returns-5 c = content-accepted _ _ _ (c .before .before .before .before .before .before .before .before .before .before .before .before .before .before .before .pre .1) _ _ _ _ _ _ _ _ (c .before .before .before .before .before .before .before .before .before .before .before .before .before .before .flag .ensures) (c .before .before .before .before .before .before .before .before .before .before .before .before .before .waived-to .ensures) (c .before .before .before .before .before .before .before .before .before .before .before .u .given .1) (c .before .before .before .before .before .before .before .before .before .data-number .ensures) (c .before .before .before .before .before .before .before .n .given .1) (c .before .before .before .before .before .channel-number .ensures) (c .before .before .before .c .given .1) (c .before .number-answer .ensures) (c .if1 .left)
 

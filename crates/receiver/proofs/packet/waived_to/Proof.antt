@@ -1,20 +1,15 @@
+-- `receiver::packet::waived_to` meets its contract: each way out is an instance of a law of Fields.
 use Rattle.receiver.proofs.Fields.{aoa-given, aoa-absent}
 use borrow.Author.Needs.{needs}
 use Rattle.receiver.proofs.packet.waived_to.Statement.{statement}
 use Rattle.receiver.proofs.packet.waived_to.Tie as tie
-use Rattle.receiver.proofs.packet.waived_to.Reads as reads
-use Rattle.receiver.proofs.packet.waived_to.Lts as lts
-use Rattle.receiver.proofs.packet.data_number.Reads as data-number-reads
 
--- src/packet.rt:85:9
 data-number-requires : tie.Need-data-number-requires
 data-number-requires c κs = search needs
 
--- src/packet.rt:85:9
 returns : tie.Need-returns
 returns c = aoa-given _ _ _ _ (c .before .if1 .taken) (c .data-number .ensures)
 
--- src/packet.rt:80:1
 returns-2 : tie.Need-returns-2
 returns-2 c = aoa-absent _ _ _ (c .if1 .left)
 

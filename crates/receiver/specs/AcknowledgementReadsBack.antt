@@ -1,0 +1,57 @@
+-- What "write acknowledgement" writes reads back as that acknowledgement: the ACK with its values, or the vector, which names exactly the received
+-- numbers from base up to end.
+use Prim.Native.Nat.{ℕ, _+_, _-_, _≤_, _<_}
+use mathlib.Core.Bool.{Bool, true, false, cond}
+use mathlib.Core.List.{List, []}
+use mathlib.Core.Logic.{⊎-elim}
+use mathlib.Core.Path.{_≡_, refl, sym, _∙_, ap}
+use native.Mathlib.Omega.{arith}
+use lib.ListN.{length, getD}
+use lib.Dec.{leb, ltb}
+use borrow.Author.Tests.{lt-leb, le-leb, le-ltb, lt-ltb}
+use Rattle.common.specs.Facts.{lt-or-ge}
+use Rattle.vector.specs.Says.{names}
+use Rattle.vector.specs.Rule.{vectorOf}
+use Rattle.vector.specs.ReadsBack.{names-exactly}
+use Rattle.wire.specs.Write.{datagramOf}
+use Rattle.wire.specs.Same.{Says}
+use Rattle.wire.specs.WrittenReadsBack.{written-reads-back}
+use Rattle.receiver.specs.declared.Receiver.{Receiver}
+use Rattle.receiver.specs.Record.{isMarked, markAt}
+use Rattle.receiver.specs.Acknowledge.{statesFrom, statesOf, allThere, ackValues, vectorValues, acknowledgementOf}
+use Rattle.receiver.specs.AcknowledgeLaws.{state-at, state-past, ack-accepted, vector-accepted}
+
+-- Where all is there, the ACK for base − 1, with the caller's stamp and gap.
+pub ack-reads-back : (w : ℕ) (r : Receiver) (stamp gap : ℕ) → allThere r ≡ true
+    → Says (ackValues r stamp gap) [] [] [] (acknowledgementOf w r stamp gap)
+unfolding acknowledgementOf
+ack-reads-back w r stamp gap t = rw t (written-reads-back (ackValues r stamp gap) [] [] [] 10 (ack-accepted r stamp gap))
+
+-- Otherwise the vector from base on. A consistent record's end is at most base + w; a window of up to 880 fits one vector.
+pub vector-reads-back : (w : ℕ) (r : Receiver) (stamp gap : ℕ) → allThere r ≡ false → r .end .0 ≤ r .base .0 + w → w ≤ 880
+    → Says (vectorValues w r) [] (vectorOf (statesOf w r)) [] (acknowledgementOf w r stamp gap)
+unfolding acknowledgementOf
+vector-reads-back w r stamp gap t h u =
+    rw t
+    (written-reads-back (vectorValues w r) [] (vectorOf (statesOf w r)) [] (length (datagramOf (vectorValues w r) [] (vectorOf (statesOf w r)) []))
+    (vector-accepted w r h u))
+
+-- It names a number exactly if that lies from base up to end and is received.
+pub vector-names : (w : ℕ) (r : Receiver) (n : ℕ)
+    → names (vectorOf (statesOf w r)) (r .base .0) n ≡ cond (leb (r .base .0) n) (cond (ltb n (r .end .0)) (isMarked (markAt w r n)) false) false
+unfolding statesOf
+vector-names w r n =
+    names-exactly (statesOf w r) (r .base .0) n
+    ∙ ⊎-elim
+    (λ (lt : n < r .base .0). rw (lt-leb (r .base .0) n lt) refl)
+    (λ (ge : r .base .0 ≤ n). ap (λ (b : Bool). cond (leb (r .base .0) n) b false)
+    (⊎-elim
+    (λ (lt : n < r .end .0).
+    let e : r .base .0 + (n - r .base .0) ≡ n = omega arith in
+    state-at w r (r .base .0) (r .end .0 - r .base .0) (n - r .base .0) (omega arith) ∙ ap (λ (m : ℕ). isMarked (markAt w r m)) e
+    ∙ sym (ap (λ (b : Bool). cond b (isMarked (markAt w r n)) false) (lt-ltb n (r .end .0) lt)))
+    (λ (past : r .end .0 ≤ n).
+    state-past w r (r .base .0) (r .end .0 - r .base .0) (n - r .base .0) (omega arith)
+    ∙ sym (ap (λ (b : Bool). cond b (isMarked (markAt w r n)) false) (le-ltb n (r .end .0) past)))
+    (lt-or-ge n (r .end .0))))
+    (lt-or-ge n (r .base .0))
