@@ -7,5 +7,6 @@ pub mod Choice
 pub mod Only
 pub mod Every
 pub mod EveryLaws
+pub mod CountLaws
 pub mod Facts
 pub mod Parts

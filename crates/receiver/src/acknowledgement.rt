@@ -17,6 +17,14 @@ use wire::Delay;
 use wire::Values;
 use wire::Vector;
 
+// The flags of an ACK alone, and of a vector alone.
+const ACK: u16 = 1;
+
+const ACKVEC: u16 = 8;
+
+// The LogWindowSize that the endpoint writes.
+const LOGWINDOW: u8 = 5;
+
 // The states of n numbers from base on; what follows them is not looked at.
 fn states_from(r: Receiver, n: usize) -> [bool; 32]
     requires { ⌜ (r .base .0 ≤ 4294967296) × (n ≤ 32) ⌝ }
@@ -42,8 +50,8 @@ pub fn write_ack(r: Receiver, stamp: u32, gap: u8, out: &mut [u8]) -> Written
 {
     let number = ((r.base.0 - 1) % 65536) as u16;
     let values = Values {
-        flags: 1,
-        logwindow: 5,
+        flags: ACK,
+        logwindow: LOGWINDOW,
         ack: Ack {
             number,
             time: stamp % 16777216,
@@ -85,8 +93,8 @@ pub fn write_vector(r: Receiver, out: &mut [u8]) -> Written
     };
     let base = (r.base.0 % 65536) as u16;
     let values = Values {
-        flags: 8,
-        logwindow: 5,
+        flags: ACKVEC,
+        logwindow: LOGWINDOW,
         ack: Ack {
             number: 0,
             time: 0,

@@ -6,6 +6,8 @@ ghost use Rattle.receiver.specs.Consistent.{markOk, holdOk, consistentOf
 ghost use Rattle.receiver.specs.Checking.{boundsOk, markFine, holdFine, endStands};
 use crate::Hold;
 use crate::Receiver;
+use numbers::ChannelNumber;
+use numbers::DataNumber;
 
 // Do the firsts, base, end and due lie in their ranges?
 fn bounds_ok(firstdata: u64, firstchannel: u64, base: u64, end: u64, due: u64) -> bool
@@ -20,19 +22,19 @@ fn bounds_ok(firstdata: u64, firstchannel: u64, base: u64, end: u64, due: u64) -
     if base < firstdata {
         return false;
     }
-    if 4294967296 < base {
+    if crate::PAST < base {
         return false;
     }
     if end < firstdata {
         return false;
     }
-    if 4294967296 < end {
+    if crate::PAST < end {
         return false;
     }
     if due < firstchannel {
         return false;
     }
-    due <= 4294967296
+    due <= crate::PAST
 }
 
 // Where end lies above base, is the number before it marked?
@@ -69,7 +71,7 @@ fn marks_ok(r: Receiver) -> bool
     let base = r.base.0;
     let end = r.end.0;
     let mut i: u64 = 0;
-    while i < 32 {
+    while i < DataNumber::WINDOW {
         let at = window::data_place(base + i);
         let m = r.marks[at];
         if !mark_ok(m, base + i, end) {
@@ -85,10 +87,10 @@ fn hold_ok(h: Hold, c: u64) -> bool
     ensures { λ r. ⌜ r ≡ holdFine h c ⌝ }
 {
     if h.held == 1 {
-        if 1225 < h.length {
+        if crate::LONGEST < h.length {
             return false;
         }
-        return c <= 4294967295;
+        return c <= crate::HIGHEST;
     }
     if h.held != 0 {
         return false;
@@ -103,7 +105,7 @@ fn holds_ok(r: Receiver) -> bool
 {
     let due = r.due.0;
     let mut i: u64 = 0;
-    while i < 32 {
+    while i < ChannelNumber::WINDOW {
         let at = window::channel_place(due + i);
         let h = r.holds[at];
         if !hold_ok(h, due + i) {
@@ -127,7 +129,7 @@ pub fn consistent(r: Receiver) -> bool
     if r.marks[at] == 1 {
         return false;
     }
-    if base + 32 < end {
+    if base + DataNumber::WINDOW < end {
         return false;
     }
     if !end_stands(r) {

@@ -25,6 +25,14 @@ pub const STORE: usize = 39200;
 
 pub const PLACE: usize = 1225;
 
+// The longest block.
+pub const LONGEST: u16 = 1225;
+
+// The highest full number, and one past it, where base, end and due may stand.
+pub const HIGHEST: u64 = 4294967295;
+
+pub const PAST: u64 = HIGHEST + 1;
+
 // A place for a block.
 pub struct Hold {
     // 1 where a block is held, and else 0.

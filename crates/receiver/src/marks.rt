@@ -5,6 +5,7 @@ ghost use Rattle.window.specs.Window.{lifted, slid};
 ghost use Rattle.receiver.specs.Record.{isMarked};
 ghost use Rattle.receiver.specs.Packet.{marked};
 ghost use Rattle.receiver.specs.Marks.{winOf};
+use numbers::DataNumber;
 
 // Base, and a mark for each of the numbers from base on.
 pub struct Marks {
@@ -29,7 +30,7 @@ pub fn lift(m: Marks, v: u64) -> Marks
 {
     let mut next = m;
     let mut k: u64 = 0;
-    while k < 32 {
+    while k < DataNumber::WINDOW {
         let base = next.base;
         if v <= base {
             return next;
@@ -64,7 +65,7 @@ pub fn advance(m: Marks) -> Marks
 {
     let mut next = m;
     let mut k: u64 = 0;
-    while k < 32 {
+    while k < DataNumber::WINDOW {
         let base = next.base;
         let at = window::data_place(base);
         if next.places[at] != 1 {

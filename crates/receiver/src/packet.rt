@@ -92,16 +92,16 @@ fn number_answer(base: u64, due: u64, v: u64, n: u64, c: u64) -> u8
     requires { ⌜ (base ≤ 4294967296) × (due ≤ 4294967296) ⌝ }
     ensures { λ a. ⌜ a ≡ numbersAnswer 32 base due v n c ⌝ }
 {
-    if 4294967295 < v {
+    if crate::HIGHEST < v {
         return 7;
     }
-    if 4294967295 < n {
+    if crate::HIGHEST < n {
         return 7;
     }
     if marks::larger(base, v) + DataNumber::WINDOW <= n {
         return 7;
     }
-    if 4294967295 < c {
+    if crate::HIGHEST < c {
         return 7;
     }
     if due + ChannelNumber::WINDOW <= c {
@@ -144,7 +144,7 @@ pub fn judge(r: Receiver, v: Values) -> Arrived
         let Found::At(u) = data_number(r, v.aoa) else {
             return Arrived::Refused;
         };
-        if 4294967295 < u {
+        if crate::HIGHEST < u {
             return Arrived::Refused;
         }
         return Arrived::Waiver(u);

@@ -3,4 +3,5 @@ pub mod Window
 pub mod Places
 pub mod Free
 pub mod Sliding
+pub mod Alike
 pub mod Members

@@ -1,0 +1,48 @@
+-- Histories of an endpoint, of which demand 3 speaks: datagrams that arrive and takes, as calls; the blocks that calls hand over; and what such datagrams carry.
+use Prim.Native.Nat.{ℕ, _+_}
+use mathlib.Core.List.{List, [], _∷_, _++_, map}
+use mathlib.Core.Logic.{_⊎_}
+use mathlib.Core.Path.{_≡_}
+use Rattle.wire.specs.declared.Packet.{Packet}
+use Rattle.wire.specs.declared.Reading.the-variants.{Read}
+use Rattle.wire.specs.Read.{readOf}
+use Rattle.receiver.specs.History.{Event, arrives, takes, givenOf}
+use Rattle.endpoint.specs.Receive.{receiverOf}
+use Rattle.endpoint.specs.Calls.{Endpoint, Call, receives, acknowledges, sends, resends, sweeps, callOf, callsOf}
+use Rattle.endpoint.specs.Calls as calls
+
+abbrev pub callFor : Event → Call
+callFor (arrives d) = receives d
+callFor (takes room) = calls.takes room
+
+-- what a history leaves: "each call is given the records and stores as the call before left them"
+abbrev pub after : ℕ → ℕ → Endpoint → List Event → Endpoint
+after w cap e es = callsOf w cap e (map callFor es)
+
+-- what datagrams leave, with no other call between
+abbrev pub afterAll : ℕ → ℕ → Endpoint → List (List ℕ) → Endpoint
+afterAll w cap e ds = callsOf w cap e (map receives ds)
+
+-- the block that a call hands over: an accepted take does, and nothing else
+abbrev pub givenBy : ℕ → ℕ → Endpoint → Call → List (List ℕ)
+givenBy w cap e (receives d) = []
+givenBy w cap e (calls.takes room) = givenOf w cap (receiverOf (e .halves)) room
+givenBy w cap e (acknowledges stamp gap room) = []
+givenBy w cap e (sends tick block room) = []
+givenBy w cap e (resends tick room) = []
+givenBy w cap e (sweeps tick) = []
+
+unfoldable pub handedBy : ℕ → ℕ → Endpoint → List Call → List (List ℕ)
+handedBy w cap e [] = []
+handedBy w cap e (c ∷ cs) = givenBy w cap e c ++ handedBy w cap (callOf w cap e c) cs
+
+abbrev pub handed : ℕ → ℕ → Endpoint → List Event → List (List ℕ)
+handed w cap e es = handedBy w cap e (map callFor es)
+
+-- "packets of data, with or without AckOfAcks", "no other payload": read, it has the flags DATA, or AOA and DATA
+abbrev pub OnlyData : List ℕ → Type 0
+OnlyData d = (p : Packet) → readOf d ≡ Read p → (p .values .flags ≡ 0x004) ⊎ (p .values .flags ≡ 0x010 + 0x004)
+
+-- "packets carrying an acknowledgement only": read, it has the flag ACK alone, or ACKVEC alone; one that does not read may stand among them
+abbrev pub OnlyAck : List ℕ → Type 0
+OnlyAck d = (p : Packet) → readOf d ≡ Read p → (p .values .flags ≡ 0x001) ⊎ (p .values .flags ≡ 0x008)

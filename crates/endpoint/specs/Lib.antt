@@ -1,0 +1,16 @@
+-- One endpoint (document 01): opening, receiving one datagram into both halves, and every call of either half; then its theorems, that every sequence of calls
+-- leaves it sound and that the order of arrival does not matter; last the laws that they stand on.
+
+pub mod Open
+pub mod Receive
+pub mod Calls
+pub mod Fresh
+pub mod Sound
+pub mod History
+pub mod StaysSound
+pub mod AnyOrderOfData
+pub mod AnyOrderOfAcknowledgements
+pub mod CanBeMet
+pub mod Steps
+pub mod Follows
+pub mod Keeps

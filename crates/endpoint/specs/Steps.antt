@@ -1,0 +1,187 @@
+-- What one datagram does to an endpoint, half by half: one that tells the sender nothing goes to the receiver alone, and one that brings the receiver nothing
+-- goes to the sender alone.
+use Prim.Native.Nat.{ℕ}
+use mathlib.Core.Bool.{Bool, true, false, cond}
+use mathlib.Core.List.{List}
+use mathlib.Core.Logic.{_⊎_, inl, inr}
+use mathlib.Core.Option.{Option, none, some}
+use mathlib.Core.Path.{_≡_, refl, sym, _∙_, ap}
+use lib.ListN.{length}
+use lib.Dec.{eqb}
+use borrow.Author.Tests.{eqb-true}
+use Rattle.common.specs.Every.{every}
+use Rattle.common.specs.EveryLaws.{every-all, all-every}
+use Rattle.wire.specs.declared.Values.{Values}
+use Rattle.wire.specs.declared.Packet.{Packet}
+use Rattle.wire.specs.declared.Reading.{Reading}
+use Rattle.wire.specs.declared.Reading.the-variants.{Refused, Dummy, Read}
+use Rattle.wire.specs.Read.{readOf}
+use Rattle.wire.specs.Same.{bodyIn}
+use Rattle.receiver.specs.declared.Receiver.{Receiver}
+use Rattle.receiver.specs.Record as receiving
+use Rattle.receiver.specs.Consistent as receiverTests
+use Rattle.receiver.specs.Packet.{Arrival, nothing, waiver, content, arrivalAnswer, arrivalOf}
+use Rattle.receiver.specs.Packet as arriving
+use Rattle.receiver.specs.Receive.{answerFor, stateFor, arrivalFrom, waiverFrom}
+use Rattle.receiver.specs.Receive as receiver
+use Rattle.sender.specs.declared.Sender.{Sender}
+use Rattle.sender.specs.Consistent as senderTests
+use Rattle.sender.specs.Acknowledge.{Told, silent, upTo, listed, toldAnswer, toldOf, toldBy}
+use Rattle.sender.specs.Acknowledge as sender
+use Rattle.endpoint.specs.History.{OnlyData, OnlyAck}
+use Rattle.endpoint.specs.Receive.{Halves, receiverOf, soundOf, packetAnswer, packetTold, packetOf, readAnswer, readInto, receiveAnswer, receiveOf}
+
+-- a sender's half and a receiver's
+abbrev pub joined : Sender → receiving.State → Halves
+joined s r = record { sender = s; receiver = r .receiver; store = r .store }
+
+-- Both halves sound.
+pub halves-sound : (w cap : ℕ) (e : Halves) → senderTests.consistentOf w cap (e .sender) ≡ true
+    → receiverTests.soundOf w cap (e .receiver) (length (e .store)) ≡ true → soundOf w cap e ≡ true
+unfolding soundOf
+halves-sound w cap e s r = all-every _ (s, (r, tt))
+
+pub sound-halves : (w cap : ℕ) (e : Halves) → soundOf w cap e ≡ true
+    → (senderTests.consistentOf w cap (e .sender) ≡ true) × (receiverTests.soundOf w cap (e .receiver) (length (e .store)) ≡ true)
+unfolding soundOf
+sound-halves w cap e h = let a = every-all _ h in (a .0, a .1 .0)
+
+again : {A : Type 0} (b : Bool) (x y : A) → cond b (cond b x y) y ≡ cond b x y
+again true x y = refl
+again false x y = refl
+
+-- What a half is left with is as given where that half refuses.
+brought-left : (w : ℕ) (s : receiving.State) (o : Option Arrival)
+    → cond (eqb (answerFor w (s .receiver) o) 0) (stateFor w s o) s ≡ stateFor w s o
+unfolding arrivalAnswer arrivalOf arriving.packetOf
+brought-left w s none = refl
+brought-left w s (some nothing) = refl
+brought-left w s (some (waiver v)) = again (eqb (arrivalAnswer w (s .receiver) (waiver v)) 0) _ s
+brought-left w s (some (content p)) = again (eqb (arriving.packetAnswer w (s .receiver) p) 0) _ s
+
+pub values-left : (w : ℕ) (s : receiving.State) (d : List ℕ) (p : Packet)
+    → cond (eqb (receiver.valuesAnswer w (s .receiver) d p) 0) (receiver.valuesOf w s d p) s ≡ receiver.valuesOf w s d p
+unfolding receiver.valuesAnswer receiver.valuesOf
+values-left w s d p = brought-left w s (arrivalFrom (s .receiver) (p .values) (bodyIn d p))
+
+pub told-left : (w : ℕ) (s : Sender) (m : Told) → cond (eqb (toldAnswer s m) 0) (toldOf w s m) s ≡ toldOf w s m
+unfolding toldAnswer toldOf
+told-left w s silent = refl
+told-left w s (upTo a) = again (eqb (toldAnswer s (upTo a)) 0) _ s
+told-left w s (listed a v) = again (eqb (toldAnswer s (listed a v)) 0) _ s
+
+cond-receiver : (b : Bool) (s : Sender) (x y : receiving.State) → cond b (joined s x) (joined s y) ≡ joined s (cond b x y)
+cond-receiver true s x y = refl
+cond-receiver false s x y = refl
+
+cond-sender : (b : Bool) (s t : Sender) (x : receiving.State) → cond b (joined s x) (joined t x) ≡ joined (cond b s t) x
+cond-sender true s t x = refl
+cond-sender false s t x = refl
+
+-- A packet that tells the sender nothing.
+module _ (w : ℕ) (e : Halves) (d : List ℕ) (p : Packet) (t : toldBy (e .sender) d p ≡ silent) where
+  quiet-answer : packetAnswer w e d p ≡ receiver.valuesAnswer w (e .receiver) d p
+  unfolding packetAnswer toldAnswer
+  quiet-answer = rw t refl
+
+  quiet-told : packetTold w e d p ≡ joined (e .sender) (receiver.valuesOf w (receiverOf e) d p)
+  unfolding toldOf
+  quiet-told = ap (λ (m : Told). joined (toldOf w (e .sender) m) (receiver.valuesOf w (receiverOf e) d p)) t
+
+  quiet-of : packetOf w e d p ≡ joined (e .sender) (receiver.valuesOf w (receiverOf e) d p)
+  unfolding packetOf
+  quiet-of =
+      ap (λ (n : ℕ). cond (eqb n 0) (packetTold w e d p) e) quiet-answer
+      ∙ ap (λ (x : Halves). cond (eqb (receiver.valuesAnswer w (e .receiver) d p) 0) x e) quiet-told
+      ∙ cond-receiver (eqb (receiver.valuesAnswer w (e .receiver) d p) 0) (e .sender) (receiver.valuesOf w (receiverOf e) d p) (receiverOf e)
+      ∙ ap (joined (e .sender)) (values-left w (receiverOf e) d p)
+
+same : (b : Bool) → cond b true false ≡ b
+same true = refl
+same false = refl
+
+zero-or : (n : ℕ) → cond (eqb n 0) 0 n ≡ n
+zero-or n = go (eqb n 0) refl
+  where
+    go : (b : Bool) → eqb n 0 ≡ b → cond b 0 n ≡ n
+    go true e = sym (eqb-true n 0 e)
+    go false e = refl
+
+-- A packet that brings the receiver nothing.
+module _ (w : ℕ) (e : Halves) (d : List ℕ) (p : Packet) (t : arrivalFrom (e .receiver) (p .values) (bodyIn d p) ≡ some nothing) where
+  idle-answer : packetAnswer w e d p ≡ toldAnswer (e .sender) (toldBy (e .sender) d p)
+  unfolding packetAnswer receiver.valuesAnswer arrivalAnswer
+  idle-answer = rw t (zero-or (toldAnswer (e .sender) (toldBy (e .sender) d p)))
+
+  idle-told : packetTold w e d p ≡ joined (toldOf w (e .sender) (toldBy (e .sender) d p)) (receiverOf e)
+  unfolding receiver.valuesOf arrivalOf
+  idle-told = ap (λ (o : Option Arrival). joined (toldOf w (e .sender) (toldBy (e .sender) d p)) (stateFor w (receiverOf e) o)) t
+
+  idle-of : packetOf w e d p ≡ joined (toldOf w (e .sender) (toldBy (e .sender) d p)) (receiverOf e)
+  unfolding packetOf
+  idle-of =
+      ap (λ (n : ℕ). cond (eqb n 0) (packetTold w e d p) e) idle-answer
+      ∙ ap (λ (x : Halves). cond (eqb (toldAnswer (e .sender) (toldBy (e .sender) d p)) 0) x e) idle-told
+      ∙ cond-sender (eqb (toldAnswer (e .sender) (toldBy (e .sender) d p)) 0) (toldOf w (e .sender) (toldBy (e .sender) d p)) (e .sender) (receiverOf e)
+      ∙ ap (λ (s : Sender). joined s (receiverOf e)) (told-left w (e .sender) (toldBy (e .sender) d p))
+
+tells-nothing : (s : Sender) (d : List ℕ) (p : Packet) → (p .values .flags ≡ 4) ⊎ (p .values .flags ≡ 20) → toldBy s d p ≡ silent
+unfolding toldBy
+tells-nothing s d p (inl f) = rw f refl
+tells-nothing s d p (inr f) = rw f refl
+
+brings-nothing : (r : Receiver) (v : Values) (block : List ℕ) → (v .flags ≡ 1) ⊎ (v .flags ≡ 8) → arrivalFrom r v block ≡ some nothing
+unfolding arrivalFrom waiverFrom
+brings-nothing r v block (inl f) = rw f refl
+brings-nothing r v block (inr f) = rw f refl
+
+-- Data alone: the endpoint answers as its receiver's half does, and only that half changes.
+module _ (w cap : ℕ) (e : Halves) (d : List ℕ) (only : OnlyData d) (s : senderTests.consistentOf w cap (e .sender) ≡ true) where
+  read-quiet : (r : Reading) → readOf d ≡ r
+      → (readAnswer w e d r ≡ receiver.readAnswer w (e .receiver) d r) × (readInto w e d r ≡ joined (e .sender) (receiver.readInto w (receiverOf e) d r))
+  unfolding readAnswer readInto receiver.readAnswer receiver.readInto
+  read-quiet (Refused n) q = (refl, refl)
+  read-quiet Dummy q = (refl, refl)
+  read-quiet (Read p) q =
+      let t : toldBy (e .sender) d p ≡ silent = tells-nothing (e .sender) d p (only p q) in (quiet-answer w e d p t, quiet-of w e d p t)
+
+  sound-is : soundOf w cap e ≡ receiverTests.soundOf w cap (e .receiver) (length (e .store))
+  unfolding soundOf every
+  sound-is = rw s (same (receiverTests.soundOf w cap (e .receiver) (length (e .store))))
+
+  pub data-answer : receiveAnswer w cap e d ≡ receiver.receiveAnswer w cap (receiverOf e) d
+  unfolding receiveAnswer receiver.receiveAnswer
+  data-answer = rw sound-is (ap (λ (n : ℕ). cond (receiverTests.soundOf w cap (e .receiver) (length (e .store))) n 13) (read-quiet (readOf d) refl .0))
+
+  pub data-of : receiveOf w cap e d ≡ joined (e .sender) (receiver.receiveOf w cap (receiverOf e) d)
+  unfolding receiveOf receiver.receiveOf
+  data-of =
+      rw sound-is
+      (ap (λ (x : Halves). cond (receiverTests.soundOf w cap (e .receiver) (length (e .store))) x e) (read-quiet (readOf d) refl .1)
+      ∙ cond-receiver (receiverTests.soundOf w cap (e .receiver) (length (e .store))) (e .sender) _ (receiverOf e))
+
+-- An acknowledgement alone: the endpoint answers as its sender's half does, and only that half changes.
+module _ (w cap : ℕ) (e : Halves) (d : List ℕ) (only : OnlyAck d) (r : receiverTests.soundOf w cap (e .receiver) (length (e .store)) ≡ true) where
+  read-idle : (x : Reading) → readOf d ≡ x
+      → (readAnswer w e d x ≡ sender.readAnswer (e .sender) d x) × (readInto w e d x ≡ joined (sender.readInto w (e .sender) d x) (receiverOf e))
+  unfolding readAnswer readInto sender.readAnswer sender.readInto
+  read-idle (Refused n) q = (refl, refl)
+  read-idle Dummy q = (refl, refl)
+  read-idle (Read p) q =
+      let t : arrivalFrom (e .receiver) (p .values) (bodyIn d p) ≡ some nothing = brings-nothing (e .receiver) (p .values) (bodyIn d p) (only p q) in
+      (idle-answer w e d p t, idle-of w e d p t)
+
+  consistent-is : soundOf w cap e ≡ senderTests.consistentOf w cap (e .sender)
+  unfolding soundOf every
+  consistent-is = rw r (same (senderTests.consistentOf w cap (e .sender)))
+
+  pub ack-answer : receiveAnswer w cap e d ≡ sender.acknowledgeAnswer w cap (e .sender) d
+  unfolding receiveAnswer sender.acknowledgeAnswer
+  ack-answer = rw consistent-is (ap (λ (n : ℕ). cond (senderTests.consistentOf w cap (e .sender)) n 13) (read-idle (readOf d) refl .0))
+
+  pub ack-of : receiveOf w cap e d ≡ joined (sender.acknowledgeOf w cap (e .sender) d) (receiverOf e)
+  unfolding receiveOf sender.acknowledgeOf
+  ack-of =
+      rw consistent-is
+      (ap (λ (x : Halves). cond (senderTests.consistentOf w cap (e .sender)) x e) (read-idle (readOf d) refl .1)
+      ∙ cond-sender (senderTests.consistentOf w cap (e .sender)) _ (e .sender) (receiverOf e))

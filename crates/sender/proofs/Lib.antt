@@ -1,0 +1,10 @@
+-- Laws that the functions' proofs cite.
+mod Tests
+mod Passing
+mod Marks
+mod Judged
+mod Turned
+mod Walking
+mod Naming
+mod Told
+mod Acked

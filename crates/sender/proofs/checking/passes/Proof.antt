@@ -1,0 +1,18 @@
+use mathlib.Core.Path.{refl}
+use borrow.Author.Tests.{eq-eqb, ne-eqb}
+use Rattle.common.specs.Choice.{when, unless}
+use Rattle.sender.proofs.checking.passes.Statement.{statement}
+use Rattle.sender.proofs.checking.passes.Tie as tie
+use Rattle.sender.proofs.checking.passes.Reads as reads
+use Rattle.sender.proofs.checking.passes.Lts as lts
+
+-- src/checking.rt:70:9
+returns : tie.Need-returns
+returns c = when _ _ _ _ (eq-eqb _ _ (c .if1 .taken)) refl
+
+-- src/checking.rt:66:1
+returns-2 : tie.Need-returns-2
+returns-2 c = unless _ _ _ _ (ne-eqb _ _ (c .if1 .left)) refl
+
+pub passes-spec : {M : Type 1} → statement M
+passes-spec = tie.close (tie.spec returns returns-2)

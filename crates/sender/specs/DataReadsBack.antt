@@ -1,0 +1,38 @@
+-- What a new block or a resend writes reads back as exactly its values: the AckOfAcks, the data number, the channel number and the block, and nothing else.
+use Prim.Native.Nat.{ℕ, _+_, _≤_}
+use mathlib.Core.List.{List, [], _++_}
+use mathlib.Core.Path.{_≡_, refl, _∙_}
+use native.Mathlib.Omega.{arith}
+use lib.ListN.{length, length-append}
+use borrow.Author.Tests.{le-ltb}
+use Rattle.common.specs.Order.{first}
+use Rattle.wire.specs.Frame.{prefixFor}
+use Rattle.wire.specs.Flags.{sixOf, outside}
+use Rattle.wire.specs.Write.{packetBytes, datagramOf, writeAnswer}
+use Rattle.wire.specs.Same.{Says}
+use Rattle.wire.specs.WrittenReadsBack.{written-reads-back}
+use Rattle.wire.specs.Round.Framing.{framed-length}
+use Rattle.sender.specs.Send.{dataValues, dataBytes, roomAnswer}
+
+pub data-length : (low next c : ℕ) (b : List ℕ) → length (dataBytes low next c b) ≡ 9 + length b
+unfolding dataBytes datagramOf packetBytes
+data-length low next c b =
+    let l = length-append b [] in
+    framed-length (prefixFor (packetBytes (dataValues low next c) [] [] b)) (packetBytes (dataValues low next c) [] [] b) ∙ omega arith
+
+-- of a block that is short enough, nothing but the room decides
+pub data-answer : (low next c : ℕ) (b : List ℕ) (room : ℕ) → length b ≤ 1223
+    → writeAnswer (dataValues low next c) [] [] b room ≡ roomAnswer (dataBytes low next c b) room
+unfolding writeAnswer roomAnswer dataBytes first outside sixOf
+data-answer low next c b room h =
+    let n : length (datagramOf (dataValues low next c) [] [] b) ≤ 1232 = omega (arith, data-length low next c b) in
+    rw (le-ltb 1232 (length (datagramOf (dataValues low next c) [] [] b)) n) refl
+
+-- THE THEOREM.
+pub data-reads-back : (low next c : ℕ) (b : List ℕ) → length b ≤ 1223 → Says (dataValues low next c) [] [] b (dataBytes low next c b)
+unfolding dataBytes roomAnswer first
+data-reads-back low next c b h =
+    let l = length (datagramOf (dataValues low next c) [] [] b) in
+    let fits = le-ltb (length (datagramOf (dataValues low next c) [] [] b)) (length (datagramOf (dataValues low next c) [] [] b)) (omega arith) in
+    written-reads-back (dataValues low next c) [] [] b (length (datagramOf (dataValues low next c) [] [] b))
+    (rw (data-answer low next c b (length (datagramOf (dataValues low next c) [] [] b)) h, fits) refl)

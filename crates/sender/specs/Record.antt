@@ -1,0 +1,96 @@
+-- The sender's record, over a window of w: "32 places for data numbers from low up to next (pending, received or lost; channel number; tick sent) and 32 for
+-- blocks from channel low up to channel next (in flight, waiting or acknowledged; length)."
+use Prim.Native.Nat.{ℕ, _*_, _%_}
+use mathlib.Core.Bool.{Bool, cond, true}
+use mathlib.Core.List.{List}
+use lib.ListN.{take, drop}
+use lib.Dec.{eqb}
+use Rattle.window.specs.Window.{Win, here}
+use Rattle.sender.specs.declared.NumberPlace.{NumberPlace}
+use Rattle.sender.specs.declared.BlockPlace.{BlockPlace}
+use Rattle.sender.specs.declared.Sender.{Sender}
+
+-- "Full numbers run to 4,294,967,295"
+abbrev pub highest : ℕ
+highest = 4294967295
+
+-- a record and the store that is lent with it
+pub record State : Type 0 where
+  pub sender : Sender
+  pub store : List ℕ
+
+abbrev pub state : Sender → List ℕ → State
+state s b = record { sender = s; store = b }
+
+-- the states of a number's place
+abbrev pub pending : ℕ
+pending = 1
+
+abbrev pub received : ℕ
+received = 2
+
+abbrev pub lost : ℕ
+lost = 3
+
+-- the states of a block's place
+abbrev pub inFlight : ℕ
+inFlight = 1
+
+abbrev pub waiting : ℕ
+waiting = 2
+
+abbrev pub acknowledged : ℕ
+acknowledged = 3
+
+abbrev pub isPending : NumberPlace → Bool
+isPending p = eqb (p .state) pending
+
+abbrev pub isReceived : NumberPlace → Bool
+isReceived p = eqb (p .state) received
+
+abbrev pub isLost : NumberPlace → Bool
+isLost p = eqb (p .state) lost
+
+abbrev pub isInFlight : BlockPlace → Bool
+isInFlight b = eqb (b .state) inFlight
+
+abbrev pub isWaiting : BlockPlace → Bool
+isWaiting b = eqb (b .state) waiting
+
+abbrev pub isAcknowledged : BlockPlace → Bool
+isAcknowledged b = eqb (b .state) acknowledged
+
+-- the zero places
+abbrev pub noNumber : NumberPlace
+noNumber = record { state = 0; channel = record { 0 = 0 }; tick = 0 }
+
+abbrev pub noBlock : BlockPlace
+noBlock = record { state = 0; length = 0 }
+
+-- "Both lows stand at the first pending number and first unacknowledged block, or at next": what low and channel low pass
+abbrev pub numberPasses : NumberPlace → Bool
+numberPasses p = cond (isReceived p) true (isLost p)
+
+abbrev pub blockPasses : BlockPlace → Bool
+blockPasses b = isAcknowledged b
+
+-- the record's two windows
+abbrev pub numbersOf : Sender → Win NumberPlace
+numbersOf s = record { base = s .low .0; places = s .numbers }
+
+abbrev pub blocksOf : Sender → Win BlockPlace
+blocksOf s = record { base = s .channellow .0; places = s .blocks }
+
+abbrev pub numberAt : ℕ → Sender → ℕ → NumberPlace
+numberAt w s n = here noNumber w (numbersOf s) n
+
+abbrev pub blockAt : ℕ → Sender → ℕ → BlockPlace
+blockAt w s c = here noBlock w (blocksOf s) c
+
+-- "a lent store of the sender's own, laid out as the receiver's"
+abbrev pub storePlace : ℕ → ℕ → ℕ
+storePlace w c = c % w * 1225
+
+-- the bytes of block c, as its place has them
+unfoldable pub contents : ℕ → State → ℕ → List ℕ
+contents w s c = take (blockAt w (s .sender) c .length) (drop (storePlace w c) (s .store))

@@ -1,0 +1,71 @@
+// The sender's half of an endpoint: which data numbers are out, and which blocks they carry.
+// A record goes in by value and comes back by value; sent blocks stand in a store that the host lends, 1,225 bytes to a place.
+pub mod acknowledging;
+pub mod checking;
+pub mod sending;
+pub mod turning;
+
+use numbers::ChannelNumber;
+use numbers::DataNumber;
+
+// The size of the store, and of a block's place in it; the longest block that is sent.
+pub const STORE: usize = 39200;
+
+pub const PLACE: usize = 1225;
+
+pub const LONGEST: usize = 1223;
+
+// The highest full number.
+pub const HIGHEST: u64 = 4294967295;
+
+// What a data number's place says of it.
+pub const UNUSED: u8 = 0;
+
+pub const PENDING: u8 = 1;
+
+pub const RECEIVED: u8 = 2;
+
+pub const LOST: u8 = 3;
+
+// What a block's place says of it.
+pub const VACANT: u8 = 0;
+
+pub const INFLIGHT: u8 = 1;
+
+pub const WAITING: u8 = 2;
+
+pub const ACKNOWLEDGED: u8 = 3;
+
+// A place for a data number.
+pub struct NumberPlace {
+    // Unused, pending, received or lost.
+    pub state: u8,
+    // The block that it carries, and the tick at which it was sent.
+    pub channel: ChannelNumber,
+    pub tick: u32,
+}
+
+// A place for a block.
+pub struct BlockPlace {
+    // Vacant, in flight, waiting or acknowledged.
+    pub state: u8,
+    // The block's length.
+    pub length: u16,
+}
+
+// The sender's record.
+pub struct Sender {
+    // The first number of each kind, and the loss timeout in milliseconds.
+    pub firstdata: DataNumber,
+    pub firstchannel: ChannelNumber,
+    pub timeout: u32,
+    // Data numbers from low up to next are in range; low is the first pending one, or next.
+    pub low: DataNumber,
+    pub next: DataNumber,
+    // Blocks from channel low up to channel next are in range; channel low is the first unacknowledged one, or channel next.
+    pub channellow: ChannelNumber,
+    pub channelnext: ChannelNumber,
+    // Number n has place n modulo the window, block c place c modulo the window.
+    pub numbers: [NumberPlace; 32],
+    pub blocks: [BlockPlace; 32],
+}

@@ -1,0 +1,91 @@
+// Some pending numbers turn and their blocks with them, and both lows move on: what acknowledging and sweeping have in common.
+ghost use mathlib.Core.Path.{_≡_};
+ghost use mathlib.Core.Bool.{true, false, cond};
+ghost use Prim.Native.Nat.{_≤_};
+ghost use lib.Dec.{eqb, ltb};
+ghost use Rattle.sender.specs.Turn.{turnedOf};
+ghost use Rattle.sender.specs.Chosen.{chosenBy};
+use crate::BlockPlace;
+use crate::NumberPlace;
+use crate::Sender;
+use crate::checking;
+use numbers::ChannelNumber;
+use numbers::DataNumber;
+
+// Does number n turn, in this state, with this flag?
+fn turns(state: u8, flag: bool, n: u64, upto: u64) -> bool
+    ensures { λ r. ⌜ r ≡ cond (eqb state 1) (cond flag true (ltb n upto)) false ⌝ }
+{
+    if state != crate::PENDING {
+        return false;
+    }
+    if flag {
+        return true;
+    }
+    n < upto
+}
+
+// Pending numbers that are flagged at their place, or lie below upto, get the one state and their blocks the other. Then low moves
+// past received and lost numbers, and channel low past acknowledged blocks.
+pub fn turn(s: Sender, flags: [bool; 32], upto: u64, number: u8, block: u8) -> Sender
+    requires { ⌜ (s .low .0 ≤ 4294967296) × (s .channellow .0 ≤ 4294967296) ⌝ }
+    ensures { λ r. ⌜ r ≡ turnedOf 32 (record { number = number; block = block }) (chosenBy 32 flags upto) s ⌝ }
+{
+    let low = s.low.0;
+    let mut q = s;
+    let mut i: u64 = 0;
+    while i < DataNumber::WINDOW {
+        let n = low + i;
+        let at = (n % DataNumber::WINDOW) as usize;
+        let p = q.numbers[at];
+        if turns(p.state, flags[at], n, upto) {
+            let channel = p.channel;
+            let blockat = (channel.0 % ChannelNumber::WINDOW) as usize;
+            let b = q.blocks[blockat];
+            q.numbers[at] = NumberPlace {
+                state: number,
+                channel,
+                tick: p.tick,
+            };
+            q.blocks[blockat] = BlockPlace {
+                state: block,
+                length: b.length,
+            };
+        }
+        i += 1;
+    }
+    let mut k: u64 = 0;
+    while k < DataNumber::WINDOW {
+        let n = q.low.0;
+        let at = (n % DataNumber::WINDOW) as usize;
+        let p = q.numbers[at];
+        if !checking::passes(p.state) {
+            break;
+        }
+        q.numbers[at] = NumberPlace {
+            state: crate::UNUSED,
+            channel: ChannelNumber(0),
+            tick: 0,
+        };
+        let after = DataNumber(n + 1);
+        q.low = after;
+        k += 1;
+    }
+    let mut m: u64 = 0;
+    while m < ChannelNumber::WINDOW {
+        let c = q.channellow.0;
+        let at = (c % ChannelNumber::WINDOW) as usize;
+        let b = q.blocks[at];
+        if b.state != crate::ACKNOWLEDGED {
+            return q;
+        }
+        q.blocks[at] = BlockPlace {
+            state: crate::VACANT,
+            length: 0,
+        };
+        let after = ChannelNumber(c + 1);
+        q.channellow = after;
+        m += 1;
+    }
+    q
+}
