@@ -8,3 +8,5 @@ mod Walking
 mod Naming
 mod Told
 mod Acked
+mod Sent
+mod Resent

@@ -16,6 +16,7 @@ pub mod Outset
 pub mod Bounds
 pub mod Chosen
 pub mod Walk
+pub mod Lowest
 pub mod PlaceTests
 pub mod Facts
 pub mod TurnedWants

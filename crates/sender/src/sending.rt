@@ -1,15 +1,19 @@
-// The steps that a new block and a resend share: the packet, what refuses it, and the record that it leaves.
+// New block and resend: judged first, then written, and only then the record and the store change.
 ghost use mathlib.Core.Path.{_≡_};
 ghost use mathlib.Core.Bool.{true, cond};
 ghost use Prim.Native.Nat.{_+_, _≤_};
 ghost use lib.ListN.{length};
 ghost use lib.Dec.{leb, ltb};
 ghost use Rattle.common.specs.Answer.{writtenOf, leftOf};
-ghost use Rattle.sender.specs.Send.{dataBytes, roomAnswer, sentOf};
+ghost use mathlib.Core.Option.{some};
+ghost use Rattle.sender.specs.Send.{dataBytes, roomAnswer, sentOf, newAnswer, newDatagram, newOf, lowestWaiting, resendAnswer, resendDatagram, resendOf};
+ghost use Rattle.sender.specs.Lowest.{lowestOf};
+ghost use Rattle.sender.specs.Consistent.{soundOf};
 ghost use Rattle.sender.specs.Record.{highest, state};
 use crate::BlockPlace;
 use crate::NumberPlace;
 use crate::Sender;
+use crate::checking;
 use common::Written;
 use numbers::ChannelNumber;
 use numbers::DataNumber;
@@ -17,6 +21,18 @@ use wire::Ack;
 use wire::Delay;
 use wire::Values;
 use wire::Vector;
+
+// What a call that sends answers: what it wrote, and the record.
+pub struct Outcome {
+    pub written: Written,
+    pub sender: Sender,
+}
+
+// The waiting block of lowest channel number, if any waits.
+pub enum Lowest {
+    Nothing,
+    Block(u64),
+}
 
 // Writes the datagram that carries a block. Refused with 14 alone.
 fn put_data(low: u64, next: u64, channel: u64, block: &[u8], out: &mut [u8]) -> Written
@@ -98,4 +114,154 @@ fn sent(s: Sender, tick: u32, c: u64, length: u16, channelnext: u64) -> Sender
         length,
     };
     q
+}
+
+// A new block of a sound record: refused with 10, 12, 9, 14 in this order.
+pub fn send_sound(s: Sender, store: &mut [u8], tick: u32, block: &[u8], out: &mut [u8]) -> Outcome
+    requires { ⌜ soundOf 32 32 s (length (now store)) ≡ true ⌝ }
+    ensures answer { λ r. ⌜ r .written ≡ writtenOf (newAnswer 32 32 (state s (now (store .entry))) (now (block .entry)) (length (now (out .entry)))) (newDatagram (state s (now (store .entry))) (now (block .entry))) ⌝ }
+    ensures record { λ r. ⌜ r .sender ≡ newOf 32 32 (state s (now (store .entry))) tick (now (block .entry)) (length (now (out .entry))) .sender ⌝ }
+    ensures kept { λ r. ⌜ now (store .exit) ≡ newOf 32 32 (state s (now (store .entry))) tick (now (block .entry)) (length (now (out .entry))) .store ⌝ }
+    ensures bytes { λ r. ⌜ now (out .exit) ≡ leftOf (newAnswer 32 32 (state s (now (store .entry))) (now (block .entry)) (length (now (out .entry)))) (newDatagram (state s (now (store .entry))) (now (block .entry))) (now (out .entry)) ⌝ }
+{
+    let low = s.low.0;
+    let next = s.next.0;
+    let channellow = s.channellow.0;
+    let channel = s.channelnext.0;
+    if crate::LONGEST < block.len() {
+        return Outcome {
+            written: Written::Refused(10),
+            sender: s,
+        };
+    }
+    if used_up(next, channel) {
+        return Outcome {
+            written: Written::Refused(12),
+            sender: s,
+        };
+    }
+    if full(low, next, channellow, channel) {
+        return Outcome {
+            written: Written::Refused(9),
+            sender: s,
+        };
+    }
+    match put_data(low, next, channel, block, out) {
+        Written::Refused(n) => Outcome {
+            written: Written::Refused(n),
+            sender: s,
+        },
+        Written::Wrote(k) => {
+            let at = window::channel_place(channel);
+            common::put(store, at * crate::PLACE, block);
+            let q = sent(s, tick, channel, block.len() as u16, channel + 1);
+            Outcome {
+                written: Written::Wrote(k),
+                sender: q,
+            }
+        }
+    }
+}
+
+// A new block: refused with 13, 10, 12, 9, 14 in this order.
+pub fn send(s: Sender, store: &mut [u8], tick: u32, block: &[u8], out: &mut [u8]) -> Outcome
+    ensures answer { λ r. ⌜ r .written ≡ writtenOf (newAnswer 32 32 (state s (now (store .entry))) (now (block .entry)) (length (now (out .entry)))) (newDatagram (state s (now (store .entry))) (now (block .entry))) ⌝ }
+    ensures record { λ r. ⌜ r .sender ≡ newOf 32 32 (state s (now (store .entry))) tick (now (block .entry)) (length (now (out .entry))) .sender ⌝ }
+    ensures kept { λ r. ⌜ now (store .exit) ≡ newOf 32 32 (state s (now (store .entry))) tick (now (block .entry)) (length (now (out .entry))) .store ⌝ }
+    ensures bytes { λ r. ⌜ now (out .exit) ≡ leftOf (newAnswer 32 32 (state s (now (store .entry))) (now (block .entry)) (length (now (out .entry)))) (newDatagram (state s (now (store .entry))) (now (block .entry))) (now (out .entry)) ⌝ }
+{
+    if !checking::sound(s, store.len()) {
+        return Outcome {
+            written: Written::Refused(13),
+            sender: s,
+        };
+    }
+    send_sound(s, store, tick, block, out)
+}
+
+// Finds the waiting block of lowest channel number.
+fn lowest_waiting(s: Sender) -> Lowest
+    ensures { λ r. ⌜ r ≡ lowestOf (lowestWaiting 32 s) ⌝ }
+{
+    let next = s.channelnext.0;
+    let mut c = s.channellow.0;
+    while c < next {
+        let b = s.blocks[(c % ChannelNumber::WINDOW) as usize];
+        if b.state == crate::WAITING {
+            return Lowest::Block(c);
+        }
+        c += 1;
+    }
+    Lowest::Nothing
+}
+
+// Sends block c of a sound record again: refused with 12, 9, 14 in this order.
+fn resend_block(s: Sender, store: &[u8], tick: u32, c: u64, out: &mut [u8]) -> Outcome
+    requires { ⌜ (soundOf 32 32 s (length (now store)) ≡ true) × (lowestWaiting 32 s ≡ some c) ⌝ }
+    ensures answer { λ r. ⌜ r .written ≡ writtenOf (resendAnswer 32 32 (state s (now (store .entry))) (length (now (out .entry)))) (resendDatagram 32 (state s (now (store .entry)))) ⌝ }
+    ensures record { λ r. ⌜ r .sender ≡ resendOf 32 32 (state s (now (store .entry))) tick (length (now (out .entry))) ⌝ }
+    ensures bytes { λ r. ⌜ now (out .exit) ≡ leftOf (resendAnswer 32 32 (state s (now (store .entry))) (length (now (out .entry)))) (resendDatagram 32 (state s (now (store .entry)))) (now (out .entry)) ⌝ }
+{
+    let low = s.low.0;
+    let next = s.next.0;
+    if crate::HIGHEST < next {
+        return Outcome {
+            written: Written::Refused(12),
+            sender: s,
+        };
+    }
+    if low + DataNumber::WINDOW <= next {
+        return Outcome {
+            written: Written::Refused(9),
+            sender: s,
+        };
+    }
+    let at = (c % ChannelNumber::WINDOW) as usize;
+    let b = s.blocks[at];
+    let length = b.length;
+    let start = at * crate::PLACE;
+    match put_data(low, next, c, &store[start..start + length as usize], out) {
+        Written::Refused(n) => Outcome {
+            written: Written::Refused(n),
+            sender: s,
+        },
+        Written::Wrote(k) => {
+            let q = sent(s, tick, c, length, s.channelnext.0);
+            Outcome {
+                written: Written::Wrote(k),
+                sender: q,
+            }
+        }
+    }
+}
+
+// A resend from a sound record: refused with 11, 12, 9, 14 in this order.
+pub fn resend_sound(s: Sender, store: &[u8], tick: u32, out: &mut [u8]) -> Outcome
+    requires { ⌜ soundOf 32 32 s (length (now store)) ≡ true ⌝ }
+    ensures answer { λ r. ⌜ r .written ≡ writtenOf (resendAnswer 32 32 (state s (now (store .entry))) (length (now (out .entry)))) (resendDatagram 32 (state s (now (store .entry)))) ⌝ }
+    ensures record { λ r. ⌜ r .sender ≡ resendOf 32 32 (state s (now (store .entry))) tick (length (now (out .entry))) ⌝ }
+    ensures bytes { λ r. ⌜ now (out .exit) ≡ leftOf (resendAnswer 32 32 (state s (now (store .entry))) (length (now (out .entry)))) (resendDatagram 32 (state s (now (store .entry)))) (now (out .entry)) ⌝ }
+{
+    match lowest_waiting(s) {
+        Lowest::Nothing => Outcome {
+            written: Written::Refused(11),
+            sender: s,
+        },
+        Lowest::Block(c) => resend_block(s, store, tick, c, out),
+    }
+}
+
+// Sends the waiting block of lowest channel number again: refused with 13, 11, 12, 9, 14 in this order.
+pub fn resend(s: Sender, store: &[u8], tick: u32, out: &mut [u8]) -> Outcome
+    ensures answer { λ r. ⌜ r .written ≡ writtenOf (resendAnswer 32 32 (state s (now (store .entry))) (length (now (out .entry)))) (resendDatagram 32 (state s (now (store .entry)))) ⌝ }
+    ensures record { λ r. ⌜ r .sender ≡ resendOf 32 32 (state s (now (store .entry))) tick (length (now (out .entry))) ⌝ }
+    ensures bytes { λ r. ⌜ now (out .exit) ≡ leftOf (resendAnswer 32 32 (state s (now (store .entry))) (length (now (out .entry)))) (resendDatagram 32 (state s (now (store .entry)))) (now (out .entry)) ⌝ }
+{
+    if !checking::sound(s, store.len()) {
+        return Outcome {
+            written: Written::Refused(13),
+            sender: s,
+        };
+    }
+    resend_sound(s, store, tick, out)
 }
