@@ -22,6 +22,7 @@ use Rattle.receiver.specs.CanBeMet.{fresh-facts}
 use Rattle.receiver.specs.StaysConsistent.{receive-keeps, take-keeps}
 use Rattle.sender.specs.declared.Sender.{Sender}
 use Rattle.sender.specs.Record.{isPending, isAcknowledged, numberPasses, noNumber, noBlock, numberAt, blockAt}
+use Rattle.sender.specs.Fresh as sending
 use Rattle.sender.specs.Consistent as senderTests
 use Rattle.sender.specs.Acknowledge as sender
 use Rattle.sender.specs.Facts as senderFacts
@@ -31,7 +32,7 @@ use Rattle.endpoint.specs.Open.{openAnswer}
 use Rattle.endpoint.specs.Receive.{Halves, receiverOf, soundOf, packetAnswer, packetTold, packetOf, readInto, receiveOf}
 use Rattle.endpoint.specs.Calls.{Endpoint, Call, receives, takes, acknowledges, sends, resends, sweeps, sendingOf, callOf}
 use Rattle.endpoint.specs.Sound.{Sound}
-use Rattle.endpoint.specs.Fresh.{senderFresh, freshOf}
+use Rattle.endpoint.specs.Fresh.{freshOf}
 use Rattle.endpoint.specs.Steps.{joined, halves-sound}
 
 -- A datagram goes into both halves or into neither.
@@ -105,13 +106,13 @@ always (suc n) zero a = refl
 always (suc n) (suc i) a = always n i a
 
 module _ (w cap : ℕ) (lw : 0 < w) (uw : w ≤ cap) (n c t : ℕ) (o : Opened n c t) where
-  place : (m : ℕ) → numberAt w (senderFresh cap n c t) m ≡ noNumber
+  place : (m : ℕ) → numberAt w (sending.freshOf cap n c t) m ≡ noNumber
   place m = always cap (m % w) noNumber
 
-  block : (m : ℕ) → blockAt w (senderFresh cap n c t) m ≡ noBlock
+  block : (m : ℕ) → blockAt w (sending.freshOf cap n c t) m ≡ noBlock
   block m = always cap (m % w) noBlock
 
-  sender-facts : senderFacts.Facts w cap (senderFresh cap n c t)
+  sender-facts : senderFacts.Facts w cap (sending.freshOf cap n c t)
   sender-facts =
       record {
         some = lw;
@@ -134,14 +135,14 @@ module _ (w cap : ℕ) (lw : 0 < w) (uw : w ≤ cap) (n c t : ℕ) (o : Opened n
         };
         lowStands = ap numberPasses (place n);
         channelStands = ap isAcknowledged (block c);
-        pending = λ m l u p. clash (isPending (numberAt w (senderFresh cap n c t) m)) p (ap isPending (place m));
+        pending = λ m l u p. clash (isPending (numberAt w (sending.freshOf cap n c t) m)) p (ap isPending (place m));
         done = λ m l u p. absurd (omega arith);
         unused = λ m l u. place m;
         short = λ m l u. absurd (omega arith);
         rests = λ m l u p. absurd (omega arith);
         vacant = λ m l u. block m;
         single = λ m l u p. absurd (omega arith);
-        only = λ m k lm um lk uk p q e. clash (isPending (numberAt w (senderFresh cap n c t) m)) p (ap isPending (place m));
+        only = λ m k lm um lk uk p q e. clash (isPending (numberAt w (sending.freshOf cap n c t) m)) p (ap isPending (place m));
         spareNumbers = λ i l. always cap i noNumber;
         spareBlocks = λ i l. always cap i noBlock;
       }
@@ -150,6 +151,6 @@ module _ (w cap : ℕ) (lw : 0 < w) (uw : w ≤ cap) (n c t : ℕ) (o : Opened n
   unfolding senderTests.soundOf
   fresh-halves store sent ls lt =
       record {
-        sender = all-every _ (senderFacts.facts-consistent w cap (senderFresh cap n c t) sender-facts, (eq-eqb _ _ lt, tt));
+        sender = all-every _ (senderFacts.facts-consistent w cap (sending.freshOf cap n c t) sender-facts, (eq-eqb _ _ lt, tt));
         receiver = receiverFacts.facts-sound w cap _ (length store) (fresh-facts w cap n c (o .number) (o .channel)) ls;
       }

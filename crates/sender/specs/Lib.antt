@@ -2,6 +2,7 @@
 -- that every call leaves it consistent, that a sweep counts what it lost, and that the order of acknowledgements does not matter; last what
 -- only the code's contracts and the theorems' laws need.
 pub mod Record
+pub mod Fresh
 pub mod Consistent
 pub mod Turn
 pub mod Acknowledge

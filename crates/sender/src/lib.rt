@@ -1,5 +1,8 @@
 // The sender's half of an endpoint: which data numbers are out, and which blocks they carry.
 // A record goes in by value and comes back by value; sent blocks stand in a store that the host lends, 1,225 bytes to a place.
+ghost use mathlib.Core.Path.{_≡_};
+ghost use Rattle.sender.specs.Fresh.{freshOf};
+
 pub mod acknowledging;
 pub mod checking;
 pub mod sending;
@@ -68,4 +71,30 @@ pub struct Sender {
     // Number n has place n modulo the window, block c place c modulo the window.
     pub numbers: [NumberPlace; 32],
     pub blocks: [BlockPlace; 32],
+}
+
+// A fresh record, from the first number of each kind and the loss timeout.
+pub fn opened(firstdata: u16, firstchannel: u16, timeout: u32) -> Sender
+    ensures { λ r. ⌜ r ≡ freshOf 32 firstdata firstchannel timeout ⌝ }
+{
+    let data = firstdata as u64;
+    let channel = firstchannel as u64;
+    Sender {
+        firstdata: DataNumber(data),
+        firstchannel: ChannelNumber(channel),
+        timeout,
+        low: DataNumber(data),
+        next: DataNumber(data),
+        channellow: ChannelNumber(channel),
+        channelnext: ChannelNumber(channel),
+        numbers: [NumberPlace {
+            state: UNUSED,
+            channel: ChannelNumber(0),
+            tick: 0,
+        }; 32],
+        blocks: [BlockPlace {
+            state: VACANT,
+            length: 0,
+        }; 32],
+    }
 }

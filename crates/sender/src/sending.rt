@@ -117,7 +117,7 @@ fn sent(s: Sender, tick: u32, c: u64, length: u16, channelnext: u64) -> Sender
 }
 
 // A new block of a sound record: refused with 10, 12, 9, 14 in this order.
-pub fn send_sound(s: Sender, store: &mut [u8], tick: u32, block: &[u8], out: &mut [u8]) -> Outcome
+fn send_sound(s: Sender, store: &mut [u8], tick: u32, block: &[u8], out: &mut [u8]) -> Outcome
     requires { ⌜ soundOf 32 32 s (length (now store)) ≡ true ⌝ }
     ensures answer { λ r. ⌜ r .written ≡ writtenOf (newAnswer 32 32 (state s (now (store .entry))) (now (block .entry)) (length (now (out .entry)))) (newDatagram (state s (now (store .entry))) (now (block .entry))) ⌝ }
     ensures record { λ r. ⌜ r .sender ≡ newOf 32 32 (state s (now (store .entry))) tick (now (block .entry)) (length (now (out .entry))) .sender ⌝ }
@@ -236,7 +236,7 @@ fn resend_block(s: Sender, store: &[u8], tick: u32, c: u64, out: &mut [u8]) -> O
 }
 
 // A resend from a sound record: refused with 11, 12, 9, 14 in this order.
-pub fn resend_sound(s: Sender, store: &[u8], tick: u32, out: &mut [u8]) -> Outcome
+fn resend_sound(s: Sender, store: &[u8], tick: u32, out: &mut [u8]) -> Outcome
     requires { ⌜ soundOf 32 32 s (length (now store)) ≡ true ⌝ }
     ensures answer { λ r. ⌜ r .written ≡ writtenOf (resendAnswer 32 32 (state s (now (store .entry))) (length (now (out .entry)))) (resendDatagram 32 (state s (now (store .entry)))) ⌝ }
     ensures record { λ r. ⌜ r .sender ≡ resendOf 32 32 (state s (now (store .entry))) tick (length (now (out .entry))) ⌝ }

@@ -2,8 +2,8 @@
 use borrow.Author.Needs.{needs}
 use mathlib.Core.Path.{sym}
 use lib.Seq.{length-take-le}
-use Rattle.receiver_runs.proofs.acknowledges.Statement.{statement}
-use Rattle.receiver_runs.proofs.acknowledges.Tie as tie
+use Rattle.receiver_runs.proofs.calls.acknowledges.Statement.{statement}
+use Rattle.receiver_runs.proofs.calls.acknowledges.Tie as tie
 
 array-borrow-prefix-out : tie.Need-array-borrow-prefix-out
 array-borrow-prefix-out c = search needs

@@ -3,8 +3,8 @@ use borrow.Author.Needs.{needs}
 use mathlib.Core.Path.{sym}
 use native.Mathlib.Omega.{arith}
 use lib.Seq.{length-take-le}
-use Rattle.receiver_runs.proofs.lent.Statement.{statement}
-use Rattle.receiver_runs.proofs.lent.Tie as tie
+use Rattle.receiver_runs.proofs.calls.lent.Statement.{statement}
+use Rattle.receiver_runs.proofs.calls.lent.Tie as tie
 
 returns : tie.Need-returns
 returns c = search needs

@@ -2,8 +2,8 @@
 use borrow.Author.Needs.{needs}
 use native.Mathlib.Omega.{arith}
 use Prim.Native.Nat.{_-_, _≤_}
-use Rattle.receiver_runs.proofs.bytes.Statement.{statement}
-use Rattle.receiver_runs.proofs.bytes.Tie as tie
+use Rattle.receiver_runs.proofs.calls.bytes.Statement.{statement}
+use Rattle.receiver_runs.proofs.calls.bytes.Tie as tie
 
 abbrev Inv-loop : tie.InvT-loop
 Inv-loop out n i₀ i = i ≤ 32
