@@ -24,6 +24,9 @@ pub record Halves : Type 0 where
   pub receiver : Receiver
   pub store : List ℕ
 
+abbrev pub halves : Sender → Receiver → List ℕ → Halves
+halves s r store = record { sender = s; receiver = r; store = store }
+
 -- the receiver's half with its store
 abbrev pub receiverOf : Halves → receiving.State
 receiverOf e = record { receiver = e .receiver; store = e .store }

@@ -1,1 +1,159 @@
 // One endpoint: the sender's half and the receiver's half, opened together and told of the same datagrams.
+// Both records go in by value and come back by value. The other calls take the half that they concern: `take` and `acknowledge` of the
+// receiver, `send`, `resend` and `sweep` of the sender.
+ghost use mathlib.Core.Path.{_≡_};
+ghost use Rattle.wire.specs.Flags.{either, ackIn, vectorIn};
+ghost use Rattle.endpoint.specs.Open.{outOfRange, openedOf};
+ghost use Rattle.endpoint.specs.Receive.{halves, receiveAnswer, receiveOf};
+use receiver::Receiver;
+use receiver::packet;
+use sender::Sender;
+use sender::acknowledging;
+use sender::turning;
+use wire::Reading;
+use wire::bits;
+
+// The highest first number of either kind.
+const FIRST: u32 = 65535;
+
+// The shortest and the longest loss timeout, in milliseconds.
+const SHORTEST: u32 = 300;
+
+const LONGEST: u32 = 60000;
+
+// What opening answers: document 01's number, and both records; where it is refused they are all zero, and the sender's is inconsistent.
+pub struct Opened {
+    pub answer: u8,
+    pub sender: Sender,
+    pub receiver: Receiver,
+}
+
+// What receiving a datagram answers: document 01's number, and both records after the call.
+pub struct Received {
+    pub answer: u8,
+    pub sender: Sender,
+    pub receiver: Receiver,
+}
+
+// Is an opening value out of range?
+fn out_of_range(firstdata: u32, firstchannel: u32, timeout: u32) -> bool
+    ensures { λ b. ⌜ b ≡ outOfRange firstdata firstchannel timeout ⌝ }
+{
+    if FIRST < firstdata {
+        return true;
+    }
+    if FIRST < firstchannel {
+        return true;
+    }
+    if timeout < SHORTEST {
+        return true;
+    }
+    LONGEST < timeout
+}
+
+// Opens an endpoint: the first number of each kind, for both directions alike, and the loss timeout. Refused with 15.
+pub fn open(firstdata: u32, firstchannel: u32, timeout: u32) -> Opened
+    ensures { λ x. ⌜ x ≡ openedOf 32 firstdata firstchannel timeout ⌝ }
+{
+    if out_of_range(firstdata, firstchannel, timeout) {
+        return Opened {
+            answer: 15,
+            sender: sender::opened(0, 0, 0),
+            receiver: receiver::opened(0, 0),
+        };
+    }
+    let data = firstdata as u16;
+    let channel = firstchannel as u16;
+    Opened {
+        answer: 0,
+        sender: sender::opened(data, channel, timeout),
+        receiver: receiver::opened(data, channel),
+    }
+}
+
+// Does a packet with these flags carry an acknowledgement?
+fn tells(flags: u16) -> bool
+    ensures { λ b. ⌜ b ≡ either (ackIn flags) (vectorIn flags) ⌝ }
+{
+    if bits::flag(flags, wire::ACK) {
+        return true;
+    }
+    bits::flag(flags, wire::ACKVEC)
+}
+
+// Receives one datagram into both halves: both judge it before either changes. Refused with 13, then as reading it, then with 8, then with 7.
+pub fn receive(s: Sender, r: Receiver, store: &mut [u8], d: &[u8]) -> Received
+    ensures answer { λ x. ⌜ x .answer ≡ receiveAnswer 32 32 (halves s r (now (store .entry))) (now (d .entry)) ⌝ }
+    ensures sender { λ x. ⌜ x .sender ≡ receiveOf 32 32 (halves s r (now (store .entry))) (now (d .entry)) .sender ⌝ }
+    ensures receiver { λ x. ⌜ x .receiver ≡ receiveOf 32 32 (halves s r (now (store .entry))) (now (d .entry)) .receiver ⌝ }
+    ensures bytes { λ x. ⌜ now (store .exit) ≡ receiveOf 32 32 (halves s r (now (store .entry))) (now (d .entry)) .store ⌝ }
+{
+    if store.len() != receiver::STORE {
+        return Received {
+            answer: 13,
+            sender: s,
+            receiver: r,
+        };
+    }
+    if !sender::checking::consistent(s) {
+        return Received {
+            answer: 13,
+            sender: s,
+            receiver: r,
+        };
+    }
+    if !receiver::checking::consistent(r) {
+        return Received {
+            answer: 13,
+            sender: s,
+            receiver: r,
+        };
+    }
+    match wire::reader::read(d) {
+        Reading::Refused(n) => Received {
+            answer: n,
+            sender: s,
+            receiver: r,
+        },
+        Reading::Dummy => Received {
+            answer: 0,
+            sender: s,
+            receiver: r,
+        },
+        Reading::Read(p) => {
+            let values = p.values;
+            let told = acknowledging::judge(s, d, p);
+            if told.answer != 0 {
+                return Received {
+                    answer: told.answer,
+                    sender: s,
+                    receiver: r,
+                };
+            }
+            let arrived = packet::judge(r, values);
+            let number = packet::number(arrived);
+            if number != 0 {
+                return Received {
+                    answer: number,
+                    sender: s,
+                    receiver: r,
+                };
+            }
+            let q = packet::apply(r, store, d, p, arrived);
+            if !tells(values.flags) {
+                return Received {
+                    answer: 0,
+                    sender: s,
+                    receiver: q,
+                };
+            }
+            let flags = told.flags;
+            let t = turning::turn(s, flags, told.upto, sender::RECEIVED, sender::ACKNOWLEDGED);
+            Received {
+                answer: 0,
+                sender: t,
+                receiver: q,
+            }
+        }
+    }
+}

@@ -1,0 +1,4 @@
+-- Laws that the functions' proofs cite.
+
+mod Opening
+mod Receiving
