@@ -10,3 +10,4 @@ mod Told
 mod Acked
 mod Sent
 mod Resent
+mod Swept

@@ -87,7 +87,7 @@ up-to-right s (At m) =
           (record { answer = 0; flags = replicate 32 false; upto = m + 1 }) (λ e. turned-ext acknowledging _ _ s (λ n l u. up-to m n));
     }
 
-chosen-flag : (flags : List Bool) (n : ℕ) → chosenBy 32 flags 0 n ≡ getD flags (n % 32) false
+pub chosen-flag : (flags : List Bool) (n : ℕ) → chosenBy 32 flags 0 n ≡ getD flags (n % 32) false
 unfolding chosenBy
 chosen-flag flags n = ap (λ (b : Bool). cond (getD flags (n % 32) false) true b) (le-ltb n 0 (omega arith)) ∙ go (getD flags (n % 32) false)
   where

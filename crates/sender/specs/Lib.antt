@@ -18,6 +18,7 @@ pub mod Bounds
 pub mod Chosen
 pub mod Walk
 pub mod Lowest
+pub mod FlagsLost
 pub mod PlaceTests
 pub mod Facts
 pub mod TurnedWants

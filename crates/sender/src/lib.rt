@@ -6,6 +6,7 @@ ghost use Rattle.sender.specs.Fresh.{freshOf};
 pub mod acknowledging;
 pub mod checking;
 pub mod sending;
+pub mod sweeping;
 pub mod turning;
 
 use numbers::ChannelNumber;
