@@ -114,9 +114,10 @@ module _ (s : Sender) (r : Receiver) (store d : List ℕ) where
 
     parts : (n : ℕ) (t : Sender) (q : Receiver) (left : List ℕ) → n ≡ readAnswer 32 (halves s r store) d x
         → halves t q left ≡ readInto 32 (halves s r store) d x → Gives s r store d n t q left
-    parts n t q left a e =
-        (a ∙ answered,
-        (ap (λ (y : Halves). y .sender) (e ∙ leaves), (ap (λ (y : Halves). y .receiver) (e ∙ leaves), ap (λ (y : Halves). y .store) (e ∙ leaves))))
+    parts n t q left a e = (
+      a ∙ answered,
+      (ap (λ (y : Halves). y .sender) (e ∙ leaves), (ap (λ (y : Halves). y .receiver) (e ∙ leaves), ap (λ (y : Halves). y .store) (e ∙ leaves))),
+    )
 
     pub read-refused : (n : ℕ) → x ≡ Refused n → Gives s r store d n s r store
     unfolding readAnswer readInto

@@ -1,48 +1,35 @@
+-- `endpoint::open` meets its contract: each way out is an instance of a law.
 use mathlib.Core.Path.{sym, _∙_}
 use native.Mathlib.Omega.{arith}
 use Rattle.endpoint.proofs.Opening.{firsts-fit, refused, opens}
 use borrow.Author.Needs.{needs}
 use Rattle.endpoint.proofs.open.Statement.{statement}
 use Rattle.endpoint.proofs.open.Tie as tie
-use Rattle.endpoint.proofs.open.Reads as reads
-use Rattle.endpoint.proofs.open.Lts as lts
-use Rattle.endpoint.proofs.out_of_range.Reads as out-of-range-reads
-use Rattle.receiver.proofs.opened.Reads as opened-reads
-use Rattle.sender.proofs.opened.Reads as opened-reads′
 
--- src/lib.rt:58:8
 out-of-range-requires : tie.Need-out-of-range-requires
 out-of-range-requires c κs = search needs
 
--- src/lib.rt:61:21
 opened-requires : tie.Need-opened-requires
 opened-requires c κs = search needs
 
--- src/lib.rt:62:23
 opened-requires-2 : tie.Need-opened-requires-2
 opened-requires-2 c κs = search needs
 
--- src/lib.rt:59:9
 returns : tie.Need-returns
 returns c = refused _ _ _ _ _ (sym (c .before .before .before .out-of-range .ensures) ∙ c .before .before .if1 .taken) (c .before .opened .ensures) (c .opened2 .ensures)
 
--- src/lib.rt:65:16
 cast-data : tie.Need-cast-data
 cast-data c = let f = firsts-fit _ _ _ (sym (c .before .out-of-range .ensures) ∙ c .if1 .left) .0 in omega arith
 
--- src/lib.rt:66:19
 cast-channel : tie.Need-cast-channel
 cast-channel c = let f = firsts-fit _ _ _ (sym (c .before .out-of-range .ensures) ∙ c .if1 .left) .1 in omega arith
 
--- src/lib.rt:69:17
 opened-requires-3 : tie.Need-opened-requires-3
 opened-requires-3 c κs = search needs
 
--- src/lib.rt:70:19
 opened-requires-4 : tie.Need-opened-requires-4
 opened-requires-4 c κs = search needs
 
--- src/lib.rt:55:1
 returns-2 : tie.Need-returns-2
 returns-2 c = opens _ _ _ _ _ (sym (c .before .before .before .out-of-range .ensures) ∙ c .before .before .if1 .left) (c .before .opened3 .ensures) (c .opened4 .ensures)
 

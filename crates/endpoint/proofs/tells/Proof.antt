@@ -1,25 +1,18 @@
-use mathlib.Core.Path.{sym, _∙_}
+-- `endpoint::tells` meets its contract: each way out is an instance of a law.
 use Rattle.endpoint.proofs.Receiving.{tells-first, tells-second}
 use borrow.Author.Needs.{needs}
 use Rattle.endpoint.proofs.tells.Statement.{statement}
 use Rattle.endpoint.proofs.tells.Tie as tie
-use Rattle.endpoint.proofs.tells.Reads as reads
-use Rattle.endpoint.proofs.tells.Lts as lts
-use Rattle.wire.proofs.bits.flag.Reads as flag-reads
 
--- src/lib.rt:78:8
 flag-requires : tie.Need-flag-requires
 flag-requires c κs = search needs
 
--- src/lib.rt:79:9
 returns : tie.Need-returns
 returns c = tells-first _ _ _ (c .before .flag .ensures) (c .if1 .taken)
 
--- src/lib.rt:81:5
 flag-requires-2 : tie.Need-flag-requires-2
 flag-requires-2 c κs = search needs
 
--- src/lib.rt:75:1
 returns-2 : tie.Need-returns-2
 returns-2 c = tells-second _ _ _ _ (c .before .before .flag .ensures) (c .before .if1 .left) (c .flag2 .ensures)
 

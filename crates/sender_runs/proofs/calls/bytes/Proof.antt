@@ -1,0 +1,54 @@
+-- `bytes` is safe and ends.
+use Prim.Native.Nat.{_-_, _≤_}
+use borrow.Author.Needs.{needs}
+use Rattle.sender_runs.proofs.calls.bytes.Statement.{statement}
+use Rattle.sender_runs.proofs.calls.bytes.Tie as tie
+
+abbrev Inv-loop : tie.InvT-loop
+Inv-loop out n i₀ i = i ≤ 16
+
+abbrev μ-loop : tie.MeasureT-loop
+μ-loop out n i₀ i = 16 - i
+
+loop-holds : tie.Need-loop-holds Inv-loop μ-loop
+loop-holds c = search needs
+
+returns : tie.Need-returns Inv-loop μ-loop
+returns c = search needs
+
+returns-2 : tie.Need-returns-2 Inv-loop μ-loop
+returns-2 c = search needs
+
+shared-slice-read-byte : tie.Need-shared-slice-read-byte Inv-loop μ-loop
+shared-slice-read-byte c = search needs
+
+byte-requires : tie.Need-byte-requires Inv-loop μ-loop
+byte-requires c κs = search needs
+
+add-i : tie.Need-add-i Inv-loop μ-loop
+add-i c = search needs
+
+loop-less : tie.Need-loop-less Inv-loop μ-loop
+loop-less c = search needs
+
+loop-again : tie.Need-loop-again Inv-loop μ-loop
+loop-again c = search needs
+
+returns-3 : tie.Need-returns-3 Inv-loop μ-loop
+returns-3 c = search needs
+
+pub bytes-spec : {M : Type 1} → statement M
+bytes-spec =
+    tie.close
+    (tie.spec
+    Inv-loop
+    μ-loop
+    loop-holds
+    returns
+    returns-2
+    shared-slice-read-byte
+    byte-requires
+    add-i
+    loop-less
+    loop-again
+    returns-3)
