@@ -1,4 +1,4 @@
--- Judging, applying and the whole call: a law for each way out.
+-- Judging and the whole call: a law for each way out.
 use Prim.Native.Nat.{ℕ, _+_, _-_, _≤_, _<_}
 use mathlib.Core.Bool.{Bool, true, false, cond}
 use mathlib.Core.List.{List}
@@ -95,12 +95,12 @@ pub listed-below : (firstdata low next : ℕ) (a : Widened) (v : List ℕ) (m : 
 unfolding judgeListed
 listed-below firstdata low next a v m h = rw (data-below a m h) refl
 
--- applying
-pub applied-not : (s : Sender) (j : Judged) → (j .answer ≡ 0 → ⊥) → s ≡ appliedOf 32 s j
+-- a judged acknowledgement, applied
+applied-not : (s : Sender) (j : Judged) → (j .answer ≡ 0 → ⊥) → s ≡ appliedOf 32 s j
 unfolding appliedOf
 applied-not s j h = unless _ _ _ _ (ne-eqb _ _ h) refl
 
-pub applied-so : (s r : Sender) (j : Judged) → j .answer ≡ 0 → r ≡ turnedOf 32 acknowledging (chosenBy 32 (j .flags) (j .upto)) s → r ≡ appliedOf 32 s j
+applied-so : (s r : Sender) (j : Judged) → j .answer ≡ 0 → r ≡ turnedOf 32 acknowledging (chosenBy 32 (j .flags) (j .upto)) s → r ≡ appliedOf 32 s j
 unfolding appliedOf
 applied-so s r j h e = when _ _ _ _ (eq-eqb _ _ h) e
 
@@ -126,8 +126,19 @@ unfolding acknowledgeAnswer acknowledgeOf readAnswer readInto
 ack-dummy s d h e =
     (when _ _ _ _ h (ap (readAnswer s d) e), when _ _ _ _ h (ap (readInto 32 s d) e))
 
-pub ack-read : (s q : Sender) (d : List ℕ) (p : Packet) (j : Judged) → consistentOf 32 32 s ≡ true → Read p ≡ readOf d → j .answer ≡ toldAnswer s (toldBy s d p)
+ack-read : (s q : Sender) (d : List ℕ) (p : Packet) (j : Judged) → consistentOf 32 32 s ≡ true → Read p ≡ readOf d → j .answer ≡ toldAnswer s (toldBy s d p)
     → appliedOf 32 s j ≡ toldOf 32 s (toldBy s d p) → q ≡ appliedOf 32 s j → (j .answer ≡ acknowledgeAnswer 32 32 s d) × (q ≡ acknowledgeOf 32 32 s d)
 unfolding acknowledgeAnswer acknowledgeOf readAnswer readInto
 ack-read s q d p j h e a b c =
     (when _ _ _ _ h (a ∙ ap (readAnswer s d) e), when _ _ _ _ h (c ∙ b ∙ ap (readInto 32 s d) e))
+
+pub ack-kept : (s : Sender) (d : List ℕ) (p : Packet) (j : Judged) → consistentOf 32 32 s ≡ true → Read p ≡ readOf d → j .answer ≡ toldAnswer s (toldBy s d p)
+    → appliedOf 32 s j ≡ toldOf 32 s (toldBy s d p) → (j .answer ≡ 0 → ⊥) → (j .answer ≡ acknowledgeAnswer 32 32 s d) × (s ≡ acknowledgeOf 32 32 s d)
+ack-kept s d p j h e a b n = ack-read s s d p j h e a b (applied-not s j n)
+
+pub ack-turned : (s q : Sender) (d : List ℕ) (p : Packet) (j : Judged) → consistentOf 32 32 s ≡ true → Read p ≡ readOf d → j .answer ≡ toldAnswer s (toldBy s d p)
+    → appliedOf 32 s j ≡ toldOf 32 s (toldBy s d p) → j .answer ≡ 0 → q ≡ turnedOf 32 acknowledging (chosenBy 32 (j .flags) (j .upto)) s
+    → (0 ≡ acknowledgeAnswer 32 32 s d) × (q ≡ acknowledgeOf 32 32 s d)
+ack-turned s q d p j h e a b z t =
+    let r = ack-read s q d p j h e a b (applied-so s q j z t) in
+    (sym z ∙ r .0, r .1)

@@ -22,11 +22,11 @@ use Rattle.sender.specs.declared.Sender.{Sender}
 use Rattle.sender.specs.declared.sending.Lowest.{Lowest}
 use Rattle.sender.specs.declared.sending.Lowest.the-variants.{Nothing, Block}
 use Rattle.sender.specs.Record.{State, isWaiting, isAcknowledged, isInFlight, blockAt, contents}
-use Rattle.sender.specs.Consistent.{soundOf, blockFits, blockOk, oneCarrier, zeroBlock}
+use Rattle.sender.specs.Consistent.{consistentOf, soundOf, blockFits, blockOk, oneCarrier, zeroBlock}
 use Rattle.sender.specs.Send.{dataBytes, roomAnswer, sentOf, waitingFrom, lowestWaiting, isNone, resendDatagram, resendAnswer, resendOf}
 use Rattle.sender.specs.Lowest.{lowestOf}
 use Rattle.sender.proofs.Tests.{every-at}
-use Rattle.sender.proofs.Passing.{consistent-passes}
+use Rattle.sender.proofs.Passing.{consistent-passes, unsized, sound-as}
 use Rattle.sender.proofs.Sent.{sound-facts, refused-is, wrote-is}
 
 -- the search, block by block: k blocks are left from c on
@@ -140,9 +140,16 @@ refuses : (s : State) (tick : ℕ) (out : List ℕ) (n : ℕ) → n ≡ resendAn
 refuses s tick out n e h =
     record { written = written-refused n _ _ e h; sender = kept s tick (length out) n e h; bytes = left-refused n _ _ _ e h }
 
-pub resend-unsound : (s : State) (tick : ℕ) (out : List ℕ) → soundOf 32 32 (s .sender) (length (s .store)) ≡ false → Resent s tick out (Refused 13) (s .sender) out
+resend-unsound : (s : State) (tick : ℕ) (out : List ℕ) → soundOf 32 32 (s .sender) (length (s .store)) ≡ false → Resent s tick out (Refused 13) (s .sender) out
 unfolding resendAnswer
 resend-unsound s tick out h = refuses s tick out 13 (first-here _ _ _ (ap not h)) (λ z. omega arith)
+
+pub resend-unsized : (s : State) (tick : ℕ) (out : List ℕ) → (length (s .store) ≡ 39200 → ⊥) → Resent s tick out (Refused 13) (s .sender) out
+resend-unsized s tick out h = resend-unsound s tick out (sym (unsized _ _ h))
+
+pub resend-unfit : (s : State) (tick : ℕ) (out : List ℕ) (r : Bool) → length (s .store) ≡ 39200 → r ≡ consistentOf 32 32 (s .sender) → r ≡ false
+    → Resent s tick out (Refused 13) (s .sender) out
+resend-unfit s tick out r h e t = resend-unsound s tick out (sym (sound-as _ _ r h e) ∙ t)
 
 pub resend-none : (s : State) (tick : ℕ) (out : List ℕ) → soundOf 32 32 (s .sender) (length (s .store)) ≡ true → Nothing ≡ lowestOf (lowestWaiting 32 (s .sender))
     → Resent s tick out (Refused 11) (s .sender) out
@@ -183,16 +190,17 @@ module _ (s : State) (tick : ℕ) (out : List ℕ) (c : ℕ) (o : Ready s c) (d 
       e ∙ ap (λ (x : List ℕ). leftOf (roomAnswer x (length out)) x out) is
       ∙ ap (λ (m : ℕ). leftOf m (resendDatagram 32 s) out) (ready-room s c (length out) o)
 
-  pub resend-roomless : (left : List ℕ) (n : ℕ) → Refused n ≡ writtenOf (roomAnswer d (length out)) d → left ≡ leftOf (roomAnswer d (length out)) d out
-      → Resent s tick out (Refused n) (s .sender) left
-  resend-roomless left n e g =
-      let w = said (Refused n) e in
-      let (i, h) = refused-is n _ _ w in
-      record { written = w; sender = kept s tick (length out) n i h; bytes = laid left g }
+  pub resend-roomless : (left : List ℕ) (w : Written) (n : ℕ) → w ≡ Refused n → w ≡ writtenOf (roomAnswer d (length out)) d
+      → left ≡ leftOf (roomAnswer d (length out)) d out → Resent s tick out (Refused n) (s .sender) left
+  resend-roomless left w n r e g =
+      let x = sym r ∙ said w e in
+      let (i, h) = refused-is n _ _ x in
+      record { written = x; sender = kept s tick (length out) n i h; bytes = laid left g }
 
-  pub resend-sent : (left : List ℕ) (k : ℕ) (q : Sender) → Wrote k ≡ writtenOf (roomAnswer d (length out)) d → left ≡ leftOf (roomAnswer d (length out)) d out
+  pub resend-sent : (left : List ℕ) (w : Written) (k : ℕ) (q : Sender) → w ≡ Wrote k → w ≡ writtenOf (roomAnswer d (length out)) d
+      → left ≡ leftOf (roomAnswer d (length out)) d out
       → q ≡ sentOf 32 (s .sender) tick c (blockAt 32 (s .sender) c .length) (s .sender .channelnext .0) → Resent s tick out (Wrote k) q left
   unfolding resendOf
-  resend-sent left k q e g r =
-      let w = said (Wrote k) e in
-      record { written = w; sender = rw (eq-eqb _ _ (wrote-is k _ _ w), o .waits) r; bytes = laid left g }
+  resend-sent left w k q r e g u =
+      let x = sym r ∙ said w e in
+      record { written = x; sender = rw (eq-eqb _ _ (wrote-is k _ _ x), o .waits) u; bytes = laid left g }

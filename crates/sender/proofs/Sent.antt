@@ -18,7 +18,7 @@ use Rattle.sender.specs.Record.{highest, State}
 use Rattle.sender.specs.Consistent.{consistentOf, soundOf}
 use Rattle.sender.specs.Send.{roomAnswer, sentOf, newAnswer, newDatagram, newOf}
 use Rattle.sender.proofs.Tests.{every-at}
-use Rattle.sender.proofs.Passing.{Range, consistent-passes, range-facts}
+use Rattle.sender.proofs.Passing.{Range, consistent-passes, range-facts, unsized, sound-as}
 
 -- what a sound record tells
 pub record Sound (s : Sender) (size : ℕ) : Type 0 where
@@ -84,9 +84,16 @@ usedUp s = cond (ltb highest (s .sender .next .0)) true (ltb highest (s .sender 
 abbrev isFull : State → Bool
 isFull s = cond (leb (s .sender .low .0 + 32) (s .sender .next .0)) true (leb (s .sender .channellow .0 + 32) (s .sender .channelnext .0))
 
-pub new-unsound : (s : State) (tick : ℕ) (block out : List ℕ) → soundOf 32 32 (s .sender) (length (s .store)) ≡ false → Left s tick block out (Refused 13) (s .sender) (s .store) out
+new-unsound : (s : State) (tick : ℕ) (block out : List ℕ) → soundOf 32 32 (s .sender) (length (s .store)) ≡ false → Left s tick block out (Refused 13) (s .sender) (s .store) out
 unfolding newAnswer
 new-unsound s tick block out h = refuses s tick block out 13 (first-here _ _ _ (ap not h)) (λ z. omega arith)
+
+pub new-unsized : (s : State) (tick : ℕ) (block out : List ℕ) → (length (s .store) ≡ 39200 → ⊥) → Left s tick block out (Refused 13) (s .sender) (s .store) out
+new-unsized s tick block out h = new-unsound s tick block out (sym (unsized _ _ h))
+
+pub new-unfit : (s : State) (tick : ℕ) (block out : List ℕ) (r : Bool) → length (s .store) ≡ 39200 → r ≡ consistentOf 32 32 (s .sender) → r ≡ false
+    → Left s tick block out (Refused 13) (s .sender) (s .store) out
+new-unfit s tick block out r h e t = new-unsound s tick block out (sym (sound-as _ _ r h e) ∙ t)
 
 pub new-long : (s : State) (tick : ℕ) (block out : List ℕ) → soundOf 32 32 (s .sender) (length (s .store)) ≡ true → 1223 < length block
     → Left s tick block out (Refused 10) (s .sender) (s .store) out
@@ -117,11 +124,12 @@ unfolding newAnswer roomAnswer newDatagram
 open-room s block room o =
     first-skip _ _ _ (o .free) ∙ first-skip _ _ _ (o .fresh) ∙ first-skip _ _ _ (le-ltb _ _ (o .short)) ∙ first-skip _ _ _ (ap not (o .sound))
 
-pub new-roomless : (s : State) (tick : ℕ) (block out left : List ℕ) (n : ℕ) → Open s block
-    → Refused n ≡ writtenOf (roomAnswer (newDatagram s block) (length out)) (newDatagram s block)
+pub new-roomless : (s : State) (tick : ℕ) (block out left : List ℕ) (w : Written) (n : ℕ) → Open s block → w ≡ Refused n
+    → w ≡ writtenOf (roomAnswer (newDatagram s block) (length out)) (newDatagram s block)
     → left ≡ leftOf (roomAnswer (newDatagram s block) (length out)) (newDatagram s block) out → Left s tick block out (Refused n) (s .sender) (s .store) left
-new-roomless s tick block out left n o e g =
+new-roomless s tick block out left w n o is said g =
     let a = open-room s block (length out) o in
+    let e : Refused n ≡ writtenOf (roomAnswer (newDatagram s block) (length out)) (newDatagram s block) = sym is ∙ said in
     let (i, h) = refused-is n _ _ e in
     let r = record-refused s tick block (length out) n (i ∙ a) h in
     record {
@@ -131,14 +139,15 @@ new-roomless s tick block out left n o e g =
       bytes = g ∙ ap (λ (m : ℕ). leftOf m (newDatagram s block) out) a;
     }
 
-pub new-sent : (s : State) (tick : ℕ) (block out left store : List ℕ) (k at : ℕ) (q : Sender) → Open s block
-    → Wrote k ≡ writtenOf (roomAnswer (newDatagram s block) (length out)) (newDatagram s block)
+pub new-sent : (s : State) (tick : ℕ) (block out left store : List ℕ) (w : Written) (k at : ℕ) (q : Sender) → Open s block → w ≡ Wrote k
+    → w ≡ writtenOf (roomAnswer (newDatagram s block) (length out)) (newDatagram s block)
     → left ≡ leftOf (roomAnswer (newDatagram s block) (length out)) (newDatagram s block) out
     → at ≡ s .sender .channelnext .0 % 32 → store ≡ putOf (s .store) (at * 1225) block
     → q ≡ sentOf 32 (s .sender) tick (s .sender .channelnext .0) (length block) (s .sender .channelnext .0 + 1) → Left s tick block out (Wrote k) q store left
 unfolding newOf
-new-sent s tick block out left store k at q o e g p b r =
+new-sent s tick block out left store w k at q o is said g p b r =
     let a = open-room s block (length out) o in
+    let e : Wrote k ≡ writtenOf (roomAnswer (newDatagram s block) (length out)) (newDatagram s block) = sym is ∙ said in
     let z : eqb (newAnswer 32 32 s block (length out)) 0 ≡ true = eq-eqb _ _ (sym a ∙ wrote-is k _ _ e) in
     record {
       written = e ∙ ap (λ (m : ℕ). writtenOf m (newDatagram s block)) a;

@@ -210,18 +210,6 @@ pub fn judge(s: Sender, d: &[u8], p: Packet) -> Judged
     }
 }
 
-// Applies a judged acknowledgement: named pending numbers become received, their blocks acknowledged.
-pub fn apply(s: Sender, j: Judged) -> Sender
-    requires { ⌜ consistentOf 32 32 s ≡ true ⌝ }
-    ensures { λ r. ⌜ r ≡ appliedOf 32 s j ⌝ }
-{
-    if j.answer != 0 {
-        return s;
-    }
-    let flags = j.flags;
-    turning::turn(s, flags, j.upto, crate::RECEIVED, crate::ACKNOWLEDGED)
-}
-
 // One datagram into the sender's record alone: 13, then reading, then 8.
 pub fn acknowledge(s: Sender, d: &[u8]) -> Acknowledged
     ensures answer { λ r. ⌜ r .answer ≡ acknowledgeAnswer 32 32 s (now (d .entry)) ⌝ }
@@ -244,9 +232,16 @@ pub fn acknowledge(s: Sender, d: &[u8]) -> Acknowledged
         },
         Reading::Read(p) => {
             let j = judge(s, d, p);
-            let q = apply(s, j);
+            if j.answer != 0 {
+                return Acknowledged {
+                    answer: j.answer,
+                    sender: s,
+                };
+            }
+            let flags = j.flags;
+            let q = turning::turn(s, flags, j.upto, crate::RECEIVED, crate::ACKNOWLEDGED);
             Acknowledged {
-                answer: j.answer,
+                answer: 0,
                 sender: q,
             }
         }

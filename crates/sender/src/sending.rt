@@ -5,10 +5,8 @@ ghost use Prim.Native.Nat.{_+_, _≤_};
 ghost use lib.ListN.{length};
 ghost use lib.Dec.{leb, ltb};
 ghost use Rattle.common.specs.Answer.{writtenOf, leftOf};
-ghost use mathlib.Core.Option.{some};
 ghost use Rattle.sender.specs.Send.{dataBytes, roomAnswer, sentOf, newAnswer, newDatagram, newOf, lowestWaiting, resendAnswer, resendDatagram, resendOf};
 ghost use Rattle.sender.specs.Lowest.{lowestOf};
-ghost use Rattle.sender.specs.Consistent.{soundOf};
 ghost use Rattle.sender.specs.Record.{highest, state};
 use crate::BlockPlace;
 use crate::NumberPlace;
@@ -116,14 +114,25 @@ fn sent(s: Sender, tick: u32, c: u64, length: u16, channelnext: u64) -> Sender
     q
 }
 
-// A new block of a sound record: refused with 10, 12, 9, 14 in this order.
-fn send_sound(s: Sender, store: &mut [u8], tick: u32, block: &[u8], out: &mut [u8]) -> Outcome
-    requires { ⌜ soundOf 32 32 s (length (now store)) ≡ true ⌝ }
+// A new block: refused with 13, 10, 12, 9, 14 in this order.
+pub fn send(s: Sender, store: &mut [u8], tick: u32, block: &[u8], out: &mut [u8]) -> Outcome
     ensures answer { λ r. ⌜ r .written ≡ writtenOf (newAnswer 32 32 (state s (now (store .entry))) (now (block .entry)) (length (now (out .entry)))) (newDatagram (state s (now (store .entry))) (now (block .entry))) ⌝ }
     ensures record { λ r. ⌜ r .sender ≡ newOf 32 32 (state s (now (store .entry))) tick (now (block .entry)) (length (now (out .entry))) .sender ⌝ }
     ensures kept { λ r. ⌜ now (store .exit) ≡ newOf 32 32 (state s (now (store .entry))) tick (now (block .entry)) (length (now (out .entry))) .store ⌝ }
     ensures bytes { λ r. ⌜ now (out .exit) ≡ leftOf (newAnswer 32 32 (state s (now (store .entry))) (now (block .entry)) (length (now (out .entry)))) (newDatagram (state s (now (store .entry))) (now (block .entry))) (now (out .entry)) ⌝ }
 {
+    if store.len() != crate::STORE {
+        return Outcome {
+            written: Written::Refused(13),
+            sender: s,
+        };
+    }
+    if !checking::consistent(s) {
+        return Outcome {
+            written: Written::Refused(13),
+            sender: s,
+        };
+    }
     let low = s.low.0;
     let next = s.next.0;
     let channellow = s.channellow.0;
@@ -163,22 +172,6 @@ fn send_sound(s: Sender, store: &mut [u8], tick: u32, block: &[u8], out: &mut [u
     }
 }
 
-// A new block: refused with 13, 10, 12, 9, 14 in this order.
-pub fn send(s: Sender, store: &mut [u8], tick: u32, block: &[u8], out: &mut [u8]) -> Outcome
-    ensures answer { λ r. ⌜ r .written ≡ writtenOf (newAnswer 32 32 (state s (now (store .entry))) (now (block .entry)) (length (now (out .entry)))) (newDatagram (state s (now (store .entry))) (now (block .entry))) ⌝ }
-    ensures record { λ r. ⌜ r .sender ≡ newOf 32 32 (state s (now (store .entry))) tick (now (block .entry)) (length (now (out .entry))) .sender ⌝ }
-    ensures kept { λ r. ⌜ now (store .exit) ≡ newOf 32 32 (state s (now (store .entry))) tick (now (block .entry)) (length (now (out .entry))) .store ⌝ }
-    ensures bytes { λ r. ⌜ now (out .exit) ≡ leftOf (newAnswer 32 32 (state s (now (store .entry))) (now (block .entry)) (length (now (out .entry)))) (newDatagram (state s (now (store .entry))) (now (block .entry))) (now (out .entry)) ⌝ }
-{
-    if !checking::sound(s, store.len()) {
-        return Outcome {
-            written: Written::Refused(13),
-            sender: s,
-        };
-    }
-    send_sound(s, store, tick, block, out)
-}
-
 // Finds the waiting block of lowest channel number.
 fn lowest_waiting(s: Sender) -> Lowest
     ensures { λ r. ⌜ r ≡ lowestOf (lowestWaiting 32 s) ⌝ }
@@ -195,13 +188,30 @@ fn lowest_waiting(s: Sender) -> Lowest
     Lowest::Nothing
 }
 
-// Sends block c of a sound record again: refused with 12, 9, 14 in this order.
-fn resend_block(s: Sender, store: &[u8], tick: u32, c: u64, out: &mut [u8]) -> Outcome
-    requires { ⌜ (soundOf 32 32 s (length (now store)) ≡ true) × (lowestWaiting 32 s ≡ some c) ⌝ }
+// Sends the waiting block of lowest channel number again: refused with 13, 11, 12, 9, 14 in this order.
+pub fn resend(s: Sender, store: &[u8], tick: u32, out: &mut [u8]) -> Outcome
     ensures answer { λ r. ⌜ r .written ≡ writtenOf (resendAnswer 32 32 (state s (now (store .entry))) (length (now (out .entry)))) (resendDatagram 32 (state s (now (store .entry)))) ⌝ }
     ensures record { λ r. ⌜ r .sender ≡ resendOf 32 32 (state s (now (store .entry))) tick (length (now (out .entry))) ⌝ }
     ensures bytes { λ r. ⌜ now (out .exit) ≡ leftOf (resendAnswer 32 32 (state s (now (store .entry))) (length (now (out .entry)))) (resendDatagram 32 (state s (now (store .entry)))) (now (out .entry)) ⌝ }
 {
+    if store.len() != crate::STORE {
+        return Outcome {
+            written: Written::Refused(13),
+            sender: s,
+        };
+    }
+    if !checking::consistent(s) {
+        return Outcome {
+            written: Written::Refused(13),
+            sender: s,
+        };
+    }
+    let Lowest::Block(c) = lowest_waiting(s) else {
+        return Outcome {
+            written: Written::Refused(11),
+            sender: s,
+        };
+    };
     let low = s.low.0;
     let next = s.next.0;
     if crate::HIGHEST < next {
@@ -216,8 +226,10 @@ fn resend_block(s: Sender, store: &[u8], tick: u32, c: u64, out: &mut [u8]) -> O
             sender: s,
         };
     }
+    // An element is read of a copy: the blocks' places alone, not the record.
     let at = (c % ChannelNumber::WINDOW) as usize;
-    let b = s.blocks[at];
+    let places = s.blocks;
+    let b = places[at];
     let length = b.length;
     let start = at * crate::PLACE;
     match put_data(low, next, c, &store[start..start + length as usize], out) {
@@ -233,35 +245,4 @@ fn resend_block(s: Sender, store: &[u8], tick: u32, c: u64, out: &mut [u8]) -> O
             }
         }
     }
-}
-
-// A resend from a sound record: refused with 11, 12, 9, 14 in this order.
-fn resend_sound(s: Sender, store: &[u8], tick: u32, out: &mut [u8]) -> Outcome
-    requires { ⌜ soundOf 32 32 s (length (now store)) ≡ true ⌝ }
-    ensures answer { λ r. ⌜ r .written ≡ writtenOf (resendAnswer 32 32 (state s (now (store .entry))) (length (now (out .entry)))) (resendDatagram 32 (state s (now (store .entry)))) ⌝ }
-    ensures record { λ r. ⌜ r .sender ≡ resendOf 32 32 (state s (now (store .entry))) tick (length (now (out .entry))) ⌝ }
-    ensures bytes { λ r. ⌜ now (out .exit) ≡ leftOf (resendAnswer 32 32 (state s (now (store .entry))) (length (now (out .entry)))) (resendDatagram 32 (state s (now (store .entry)))) (now (out .entry)) ⌝ }
-{
-    match lowest_waiting(s) {
-        Lowest::Nothing => Outcome {
-            written: Written::Refused(11),
-            sender: s,
-        },
-        Lowest::Block(c) => resend_block(s, store, tick, c, out),
-    }
-}
-
-// Sends the waiting block of lowest channel number again: refused with 13, 11, 12, 9, 14 in this order.
-pub fn resend(s: Sender, store: &[u8], tick: u32, out: &mut [u8]) -> Outcome
-    ensures answer { λ r. ⌜ r .written ≡ writtenOf (resendAnswer 32 32 (state s (now (store .entry))) (length (now (out .entry)))) (resendDatagram 32 (state s (now (store .entry)))) ⌝ }
-    ensures record { λ r. ⌜ r .sender ≡ resendOf 32 32 (state s (now (store .entry))) tick (length (now (out .entry))) ⌝ }
-    ensures bytes { λ r. ⌜ now (out .exit) ≡ leftOf (resendAnswer 32 32 (state s (now (store .entry))) (length (now (out .entry)))) (resendDatagram 32 (state s (now (store .entry)))) (now (out .entry)) ⌝ }
-{
-    if !checking::sound(s, store.len()) {
-        return Outcome {
-            written: Written::Refused(13),
-            sender: s,
-        };
-    }
-    resend_sound(s, store, tick, out)
 }

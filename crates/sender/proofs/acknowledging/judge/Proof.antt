@@ -1,46 +1,31 @@
-use native.Mathlib.Omega.{arith}
+-- `sender::acknowledging::judge` meets its contract: each way out is an instance of a law.
 use borrow.Author.Needs.{needs}
-use Rattle.wire.specs.Layout.{partOf}
 use Rattle.sender.proofs.Acked.{lows-fit}
 use Rattle.sender.proofs.Told.{told-ack, told-vector, told-silent, vector-inside}
-use borrow.Author.Needs.{needs}
 use Rattle.sender.proofs.acknowledging.judge.Statement.{statement}
 use Rattle.sender.proofs.acknowledging.judge.Tie as tie
-use Rattle.sender.proofs.acknowledging.judge.Reads as reads
-use Rattle.sender.proofs.acknowledging.judge.Lts as lts
-use Rattle.sender.proofs.acknowledging.judge_listed.Reads as judge-listed-reads
-use Rattle.sender.proofs.acknowledging.judge_up_to.Reads as judge-up-to-reads
-use Rattle.wire.proofs.bits.flag.Reads as flag-reads
 
--- src/acknowledging.rt:150:8
 flag-requires : tie.Need-flag-requires
 flag-requires c κs = search needs
 
--- src/acknowledging.rt:152:9
 judge-up-to-requires : tie.Need-judge-up-to-requires
 judge-up-to-requires c κs = lows-fit _ (c .before .before .before .before .before .before .pre .0) .2
 
--- src/acknowledging.rt:152:9
 returns : tie.Need-returns
 returns c = let r = told-ack (c .before .before .before .before .before .before .before .args .s) _ _ _ _ (c .before .before .before .flag .ensures) (c .before .before .if1 .taken) (c .judge-up-to .ensures) in (r .answer, r .applied)
 
--- src/acknowledging.rt:154:8
 flag-requires-2 : tie.Need-flag-requires-2
 flag-requires-2 c κs = search needs
 
--- src/acknowledging.rt:156:42
 cast-judge-listed : tie.Need-cast-judge-listed
 cast-judge-listed c = search needs
 
--- src/acknowledging.rt:156:9
 judge-listed-requires : tie.Need-judge-listed-requires
 judge-listed-requires c κs = let v = vector-inside _ _ _ (c .before .before .before .before .before .before .before .before .before .pre .1) (c .before .before .before .flag2 .ensures) (c .before .before .if2 .taken) in (v .long, v .inside, v .short, lows-fit _ (c .before .before .before .before .before .before .before .before .before .pre .0) .2)
 
--- src/acknowledging.rt:156:9
 returns-2 : tie.Need-returns-2
 returns-2 c = let r = told-vector (c .before .before .before .before .before .before .before .before .before .before .args .s) _ _ _ _ _ (c .before .before .before .before .before .before .before .before .before .before .pre .0) (c .before .before .before .before .before .before .flag .ensures) (c .before .before .before .before .before .if1 .left) (c .before .before .before .before .flag2 .ensures) (c .before .before .before .if2 .taken) (c .judge-listed .ensures) in (r .answer, r .applied)
 
--- src/acknowledging.rt:143:1
 returns-3 : tie.Need-returns-3
 returns-3 c = let r = told-silent (c .before .before .before .before .before .before .before .args .s) _ _ _ _ (c .before .before .before .before .before .before .before .pre .0) (c .before .before .before .flag .ensures) (c .before .before .if1 .left) (c .before .flag2 .ensures) (c .if2 .left) in (r .answer, r .applied)
 

@@ -1,43 +1,31 @@
+-- `sender::acknowledging::judge_up_to` meets its contract: each way out is an instance of a law.
 use mathlib.Core.Path.{sym, _∙_}
-use native.Mathlib.Omega.{arith}
 use borrow.Author.Needs.{needs}
 use Rattle.sender.proofs.Acked.{up-to-early, up-to-late, up-to-named, up-to-below}
-use borrow.Author.Needs.{needs}
 use Rattle.sender.proofs.acknowledging.judge_up_to.Statement.{statement}
 use Rattle.sender.proofs.acknowledging.judge_up_to.Tie as tie
-use Rattle.sender.proofs.acknowledging.judge_up_to.Reads as reads
-use Rattle.sender.proofs.acknowledging.judge_up_to.Lts as lts
-use Rattle.numbers.proofs.DataNumber.widen.Reads as widen-reads
 
--- src/acknowledging.rt:106:11
 widen-requires : tie.Need-widen-requires
 widen-requires c κs = search needs
 
--- src/acknowledging.rt:107:25
 enum-known-n : tie.Need-enum-known-n
 enum-known-n c = search needs
 
--- src/acknowledging.rt:109:17
 returns : tie.Need-returns
 returns c = up-to-early _ _ _ _ (sym (c .before .before .before .n .given .1) ∙ c .before .before .before .before .before .widen .ensures) (c .if1 .taken)
 
--- src/acknowledging.rt:112:17
 returns-2 : tie.Need-returns-2
 returns-2 c = up-to-late _ _ _ _ (sym (c .before .before .before .before .before .before .n .given .1) ∙ c .before .before .before .before .before .before .before .before .widen .ensures) (c .before .before .before .if1 .left) (c .if2 .taken)
 
--- src/acknowledging.rt:114:53
 add-t9 : tie.Need-add-t9
 add-t9 c = search needs
 
--- src/acknowledging.rt:116:34
 enum-told : tie.Need-enum-told
 enum-told c = search needs
 
--- src/acknowledging.rt:101:1
 returns-3 : tie.Need-returns-3
 returns-3 c = up-to-named _ _ _ _ (sym (c .before .before .before .before .before .before .before .n .given .1) ∙ c .before .before .before .before .before .before .before .before .before .widen .ensures) (c .before .before .before .before .if1 .left) (c .before .if2 .left)
 
--- src/acknowledging.rt:101:1
 returns-4 : tie.Need-returns-4
 returns-4 c = up-to-below _ _ _ _ (sym (c .enum-told .given .1) ∙ c .before .before .widen .ensures)
 

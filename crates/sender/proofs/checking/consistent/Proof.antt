@@ -1,7 +1,8 @@
+-- `sender::checking::consistent` meets its contract: each way out is an instance of a law.
 use Prim.Native.Nat.{ℕ, _-_, _≤_}
 use mathlib.Core.Bool.{true}
 use mathlib.Core.List.{List, map}
-use mathlib.Core.Path.{_≡_, refl, sym, _∙_, subst}
+use mathlib.Core.Path.{_≡_, sym, _∙_, subst}
 use native.Mathlib.Omega.{arith}
 use lib.ListN.{length, length-map}
 use borrow.Author.Needs.{needs}
@@ -14,15 +15,6 @@ use Rattle.sender.proofs.Marks.{Marked, mark-none, mark-next, mark-twic
 use Rattle.sender.proofs.Judged.{bad-range, bad-channels, bad-time, bad-low, bad-block-low, bad-number, bad-blocks, bad-block}
 use Rattle.sender.proofs.checking.consistent.Statement.{statement}
 use Rattle.sender.proofs.checking.consistent.Tie as tie
-use Rattle.sender.proofs.checking.consistent.Reads as reads
-use Rattle.sender.proofs.checking.consistent.Lts as lts
-use Rattle.sender.proofs.checking.block_fits.Reads as block-fits-reads
-use Rattle.sender.proofs.checking.kept.Reads as kept-reads
-use Rattle.sender.proofs.checking.number_fits.Reads as number-fits-reads
-use Rattle.sender.proofs.checking.passes.Reads as passes-reads
-use Rattle.sender.proofs.checking.range_fits.Reads as range-fits-reads
-use Rattle.sender.proofs.checking.second.Reads as second-reads
-use Rattle.sender.proofs.checking.timeout_fits.Reads as timeout-fits-reads
 
 unmapped : (X Y : Type 0) (f : X → Y) (l : List X) (n : ℕ) → length (map f l) ≡ n → length l ≡ n
 unmapped X Y f l n p = sym (length-map l f) ∙ p
@@ -39,167 +31,127 @@ Inv-loop2 s marks i j₀ j = (j ≤ 32) × (allBelow (blockOk 32 s) j ≡ true)
 abbrev μ-loop2 : tie.MeasureT-loop2
 μ-loop2 s marks i j₀ j = 32 - j
 
--- src/checking.rt:143:9
 range-fits-requires : tie.Need-range-fits-requires Inv-loop μ-loop Inv-loop2 μ-loop2
 range-fits-requires c κs = search needs
 
--- src/checking.rt:144:9
 returns : tie.Need-returns Inv-loop μ-loop Inv-loop2 μ-loop2
 returns c = bad-range _ _ (c .before .range-fits .ensures) (not-true _ (c .if1 .taken))
 
--- src/checking.rt:146:9
 range-fits-requires-2 : tie.Need-range-fits-requires-2 Inv-loop μ-loop Inv-loop2 μ-loop2
 range-fits-requires-2 c κs = search needs
 
--- src/checking.rt:147:9
 returns-2 : tie.Need-returns-2 Inv-loop μ-loop Inv-loop2 μ-loop2
 returns-2 c = bad-channels _ _ (c .before .range-fits2 .ensures) (not-true _ (c .if2 .taken))
 
--- src/checking.rt:149:9
 timeout-fits-requires : tie.Need-timeout-fits-requires Inv-loop μ-loop Inv-loop2 μ-loop2
 timeout-fits-requires c κs = search needs
 
--- src/checking.rt:150:9
 returns-3 : tie.Need-returns-3 Inv-loop μ-loop Inv-loop2 μ-loop2
 returns-3 c = bad-time _ _ (c .before .timeout-fits .ensures) (not-true _ (c .if3 .taken))
 
--- src/checking.rt:152:18
 mul-number : tie.Need-mul-number Inv-loop μ-loop Inv-loop2 μ-loop2
 mul-number c = search needs
 
--- src/checking.rt:152:18
 element-copy-out-number : tie.Need-element-copy-out-number Inv-loop μ-loop Inv-loop2 μ-loop2
 element-copy-out-number c = search needs
 
--- src/checking.rt:153:8
 passes-requires : tie.Need-passes-requires Inv-loop μ-loop Inv-loop2 μ-loop2
 passes-requires c κs = search needs
 
--- src/checking.rt:154:9
 returns-4 : tie.Need-returns-4 Inv-loop μ-loop Inv-loop2 μ-loop2
 returns-4 c = bad-low _ _ (c .before .passes .ensures) (c .if4 .taken)
 
--- src/checking.rt:156:17
 mul-block : tie.Need-mul-block Inv-loop μ-loop Inv-loop2 μ-loop2
 mul-block c = search needs
 
--- src/checking.rt:156:17
 element-copy-out-block : tie.Need-element-copy-out-block Inv-loop μ-loop Inv-loop2 μ-loop2
 element-copy-out-block c = search needs
 
--- src/checking.rt:158:9
 returns-5 : tie.Need-returns-5 Inv-loop μ-loop Inv-loop2 μ-loop2
 returns-5 c = bad-block-low _ (eq-eqb _ _ (c .if5 .taken))
 
--- src/checking.rt:162:5
 loop-holds : tie.Need-loop-holds Inv-loop μ-loop Inv-loop2 μ-loop2
 loop-holds c = (search needs, all-none _, mark-none _)
 
--- src/checking.rt:163:17
 add-n : tie.Need-add-n Inv-loop μ-loop Inv-loop2 μ-loop2
 add-n c = let r = range-facts (c .before .before .before .before .before .before .before .before .before .before .before .before .before .before .args .t1 .firstdata .0) (c .before .before .before .before .before .before .before .before .before .before .before .before .before .before .args .t1 .low .0) (c .before .before .before .before .before .before .before .before .before .before .before .before .before .before .args .t1 .next .0) (sym (c .before .before .before .before .before .before .before .before .before .before .before .before .before .range-fits .ensures) ∙ not-false _ (c .before .before .before .before .before .before .before .before .before .before .before .before .if1 .left)) in omega (arith, r .forth, r .nextFits)
 
--- src/checking.rt:164:17
 mul-p : tie.Need-mul-p Inv-loop μ-loop Inv-loop2 μ-loop2
 mul-p c = search needs
 
--- src/checking.rt:164:17
 element-copy-out-p : tie.Need-element-copy-out-p Inv-loop μ-loop Inv-loop2 μ-loop2
 element-copy-out-p c = search needs
 
--- src/checking.rt:166:17
 mul-b : tie.Need-mul-b Inv-loop μ-loop Inv-loop2 μ-loop2
 mul-b c = search needs
 
--- src/checking.rt:166:17
 element-copy-out-b : tie.Need-element-copy-out-b Inv-loop μ-loop Inv-loop2 μ-loop2
 element-copy-out-b c = search needs
 
--- src/checking.rt:168:13
 number-fits-requires : tie.Need-number-fits-requires Inv-loop μ-loop Inv-loop2 μ-loop2
 number-fits-requires c κs = search needs
 
--- src/checking.rt:169:13
 returns-6 : tie.Need-returns-6 Inv-loop μ-loop Inv-loop2 μ-loop2
 returns-6 c = bad-number _ (c .before .before .before .before .before .before .before .loop .i) (omega arith) (number-judged (c .before .before .before .before .before .before .before .before .before .before .before .before .before .before .before .before .before .before .before .before .args .t1) (c .before .before .before .before .before .before .before .loop .i) _ _ (c .before .number-fits .ensures) (not-true _ (c .if6 .taken)))
 
--- src/checking.rt:172:22
 array-read-marked : tie.Need-array-read-marked Inv-loop μ-loop Inv-loop2 μ-loop2
 array-read-marked c = search needs
 
--- src/checking.rt:173:12
 second-requires : tie.Need-second-requires Inv-loop μ-loop Inv-loop2 μ-loop2
 second-requires c κs = search needs
 
--- src/checking.rt:174:13
 returns-7 : tie.Need-returns-7 Inv-loop μ-loop Inv-loop2 μ-loop2
 returns-7 c = let r = range-facts (c .before .before .before .before .before .before .before .before .before .before .before .before .before .before .before .before .before .before .before .before .before .before .before .args .t1 .firstchannel .0) (c .before .before .before .before .before .before .before .before .before .before .before .before .before .before .before .before .before .before .before .before .before .before .before .args .t1 .channellow .0) (c .before .before .before .before .before .before .before .before .before .before .before .before .before .before .before .before .before .before .before .before .before .before .before .args .t1 .channelnext .0) (sym (c .before .before .before .before .before .before .before .before .before .before .before .before .before .before .before .before .before .before .before .before .range-fits2 .ensures) ∙ not-false _ (c .before .before .before .before .before .before .before .before .before .before .before .before .before .before .before .before .before .before .before .if2 .left)) in
     let ok = number-judged (c .before .before .before .before .before .before .before .before .before .before .before .before .before .before .before .before .before .before .before .before .before .before .before .args .t1) (c .before .before .before .before .before .before .before .before .before .before .loop .i) _ _ (c .before .before .before .before .number-fits .ensures) (not-false _ (c .before .before .before .if6 .left)) in
     bad-blocks _ (mark-twice (c .before .before .before .before .before .before .before .before .before .before .before .before .before .before .before .before .before .before .before .before .before .before .before .args .t1) (c .before .before .before .before .before .before .before .before .before .before .loop .marks) (c .before .before .before .before .before .before .before .before .before .before .loop .i) _ (omega arith) r ok (c .before .before .before .before .before .before .before .before .before .before .loop .inv .2) (c .before .second .ensures) (c .if7 .taken))
 
--- src/checking.rt:176:13
 kept-requires : tie.Need-kept-requires Inv-loop μ-loop Inv-loop2 μ-loop2
 kept-requires c κs = search needs
 
--- src/checking.rt:177:9
 array-write-marks : tie.Need-array-write-marks Inv-loop μ-loop Inv-loop2 μ-loop2
 array-write-marks c = search needs
 
--- src/checking.rt:178:9
 add-i : tie.Need-add-i Inv-loop μ-loop Inv-loop2 μ-loop2
 add-i c = search needs
 
--- src/checking.rt:162:5
 loop-less : tie.Need-loop-less Inv-loop μ-loop Inv-loop2 μ-loop2
 loop-less c = search needs
 
--- src/checking.rt:162:5
 loop-again : tie.Need-loop-again Inv-loop μ-loop Inv-loop2 μ-loop2
 loop-again c = let r = range-facts (c .before .before .before .before .before .before .before .before .before .before .before .before .before .before .before .before .before .before .before .before .before .before .before .before .args .t1 .firstchannel .0) (c .before .before .before .before .before .before .before .before .before .before .before .before .before .before .before .before .before .before .before .before .before .before .before .before .args .t1 .channellow .0) (c .before .before .before .before .before .before .before .before .before .before .before .before .before .before .before .before .before .before .before .before .before .before .before .before .args .t1 .channelnext .0) (sym (c .before .before .before .before .before .before .before .before .before .before .before .before .before .before .before .before .before .before .before .before .before .range-fits2 .ensures) ∙ not-false _ (c .before .before .before .before .before .before .before .before .before .before .before .before .before .before .before .before .before .before .before .before .if2 .left)) in
     let ok = number-judged (c .before .before .before .before .before .before .before .before .before .before .before .before .before .before .before .before .before .before .before .before .before .before .before .before .args .t1) (c .before .before .before .before .before .before .before .before .before .before .before .loop .i) _ _ (c .before .before .before .before .before .number-fits .ensures) (not-false _ (c .before .before .before .before .if6 .left)) in
     (search needs, all-more _ _ (c .before .before .before .before .before .before .before .before .before .before .before .loop .inv .1) ok, mark-next (c .before .before .before .before .before .before .before .before .before .before .before .before .before .before .before .before .before .before .before .before .before .before .before .before .args .t1) (c .before .before .before .before .before .before .before .before .before .before .before .loop .marks) (c .before .before .before .before .before .before .before .before .before .before .before .loop .i) _ _ r ok (c .before .before .before .before .before .before .before .before .before .before .before .loop .inv .2) (c .before .before .second .ensures) (c .before .if7 .left) (c .kept .ensures))
 
--- src/checking.rt:181:5
 loop2-holds : tie.Need-loop2-holds Inv-loop μ-loop Inv-loop2 μ-loop2
 loop2-holds c = (search needs, all-none _)
 
--- src/checking.rt:182:17
 add-c : tie.Need-add-c Inv-loop μ-loop Inv-loop2 μ-loop2
 add-c c = let r = range-facts (c .before .before .before .before .before .before .before .before .before .before .before .before .before .before .before .before .args .t1 .firstchannel .0) (c .before .before .before .before .before .before .before .before .before .before .before .before .before .before .before .before .args .t1 .channellow .0) (c .before .before .before .before .before .before .before .before .before .before .before .before .before .before .before .before .args .t1 .channelnext .0) (sym (c .before .before .before .before .before .before .before .before .before .before .before .before .before .range-fits2 .ensures) ∙ not-false _ (c .before .before .before .before .before .before .before .before .before .before .before .before .if2 .left)) in omega (arith, r .forth, r .nextFits)
 
--- src/checking.rt:184:17
 mul-b-2 : tie.Need-mul-b-2 Inv-loop μ-loop Inv-loop2 μ-loop2
 mul-b-2 c = search needs
 
--- src/checking.rt:184:17
 element-copy-out-b-2 : tie.Need-element-copy-out-b-2 Inv-loop μ-loop Inv-loop2 μ-loop2
 element-copy-out-b-2 c = search needs
 
--- src/checking.rt:185:22
 array-read-single : tie.Need-array-read-single Inv-loop μ-loop Inv-loop2 μ-loop2
 array-read-single c = search needs
 
--- src/checking.rt:186:13
 block-fits-requires : tie.Need-block-fits-requires Inv-loop μ-loop Inv-loop2 μ-loop2
 block-fits-requires c κs = search needs
 
--- src/checking.rt:187:13
 returns-8 : tie.Need-returns-8 Inv-loop μ-loop Inv-loop2 μ-loop2
 returns-8 c = bad-block _ (c .before .before .before .before .loop2 .j) (omega arith) (block-judged (c .before .before .before .before .before .before .before .before .before .before .before .before .before .before .before .before .before .before .before .args .t1) (c .before .before .before .before .before .before .loop .marks) (c .before .before .before .before .before .before .loop .i) (c .before .before .before .before .loop2 .j) _ _ (c .before .before .before .before .before .before .loop .inv .2) (omega arith) (omega arith) (c .before .block-fits .ensures) (not-true _ (c .if8 .taken)))
 
--- src/checking.rt:189:9
 add-j : tie.Need-add-j Inv-loop μ-loop Inv-loop2 μ-loop2
 add-j c = search needs
 
--- src/checking.rt:181:5
 loop2-less : tie.Need-loop2-less Inv-loop μ-loop Inv-loop2 μ-loop2
 loop2-less c = search needs
 
--- src/checking.rt:181:5
 loop2-again : tie.Need-loop2-again Inv-loop μ-loop Inv-loop2 μ-loop2
 loop2-again c = (search needs, all-more _ _ (c .before .before .before .before .loop2 .inv .1) (block-judged (c .before .before .before .before .before .before .before .before .before .before .before .before .before .before .before .before .before .before .before .args .t1) (c .before .before .before .before .before .before .loop .marks) (c .before .before .before .before .before .before .loop .i) (c .before .before .before .before .loop2 .j) _ _ (c .before .before .before .before .before .before .loop .inv .2) (omega arith) (omega arith) (c .before .block-fits .ensures) (not-false _ (c .if8 .left))))
 
--- src/checking.rt:140:1
 returns-9 : tie.Need-returns-9 Inv-loop μ-loop Inv-loop2 μ-loop2
 returns-9 c = let nl : length (c .before .before .before .before .before .before .before .before .before .before .before .before .before .before .before .before .args .t1 .numbers) ≡ 32 = search (needs, unmapped) in
     let bl : length (c .before .before .before .before .before .before .before .before .before .before .before .before .before .before .before .before .args .t1 .blocks) ≡ 32 = search (needs, unmapped) in

@@ -1,3 +1,4 @@
+-- `sender::checking::number_fits` meets its contract: each way out is an instance of a law.
 use mathlib.Core.Path.{sym, _∙_}
 use borrow.Author.Tests.{le-leb, lt-leb, lt-ltb, le-ltb, eq-eqb, ne-eqb, not-true, not-false}
 use Rattle.common.specs.Choice.{when, unless}
@@ -6,50 +7,37 @@ use Rattle.sender.proofs.Tests.{every-here, every-skip, every-last}
 use borrow.Author.Needs.{needs}
 use Rattle.sender.proofs.checking.number_fits.Statement.{statement}
 use Rattle.sender.proofs.checking.number_fits.Tie as tie
-use Rattle.sender.proofs.checking.number_fits.Reads as reads
-use Rattle.sender.proofs.checking.number_fits.Lts as lts
-use Rattle.sender.proofs.checking.passes.Reads as passes-reads
-use Rattle.sender.proofs.checking.zero_number.Reads as zero-number-reads
 
--- src/checking.rt:80:9
 zero-number-requires : tie.Need-zero-number-requires
 zero-number-requires c κs = search needs
 
--- src/checking.rt:80:9
 returns : tie.Need-returns
 unfolding numberFits
 returns c = when _ _ _ _ (le-leb _ _ (c .before .if1 .taken)) (c .zero-number .ensures)
 
--- src/checking.rt:84:13
 returns-2 : tie.Need-returns-2
 unfolding numberFits
 returns-2 c = unless _ _ _ _ (lt-leb _ _ (c .before .before .before .before .if1 .left)) (when _ _ _ _ (eq-eqb _ _ (c .before .before .if2 .taken)) (every-here _ _ (lt-leb _ _ (c .if3 .taken))))
 
--- src/checking.rt:87:13
 returns-3 : tie.Need-returns-3
 unfolding numberFits
 returns-3 c = unless _ _ _ _ (lt-leb _ _ (c .before .before .before .before .before .before .if1 .left)) (when _ _ _ _ (eq-eqb _ _ (c .before .before .before .before .if2 .taken)) (every-here _ _ (le-ltb _ _ (c .if4 .taken)) ∙ every-skip _ _ (le-leb _ _ (c .before .before .if3 .left))))
 
--- src/checking.rt:89:9
 returns-4 : tie.Need-returns-4
 unfolding numberFits
 returns-4 c = unless _ _ _ _ (lt-leb _ _ (c .before .before .before .before .before .before .if1 .left)) (when _ _ _ _ (eq-eqb _ _ (c .before .before .before .before .if2 .taken)) (every-last _ ∙ every-skip _ _ (lt-ltb _ _ (c .if4 .left)) ∙ every-skip _ _ (le-leb _ _ (c .before .before .if3 .left))))
 
--- src/checking.rt:91:9
 passes-requires : tie.Need-passes-requires
 passes-requires c κs = search needs
 
--- src/checking.rt:92:9
 returns-5 : tie.Need-returns-5
 unfolding numberFits
 returns-5 c = unless _ _ _ _ (lt-leb _ _ (c .before .before .before .before .if1 .left)) (unless _ _ _ _ (ne-eqb _ _ (c .before .before .if2 .left)) (every-here _ _ (sym (c .before .passes .ensures) ∙ not-true _ (c .if5 .taken))))
 
--- src/checking.rt:95:9
 returns-6 : tie.Need-returns-6
 unfolding numberFits
 returns-6 c = unless _ _ _ _ (lt-leb _ _ (c .before .before .before .before .before .before .if1 .left)) (unless _ _ _ _ (ne-eqb _ _ (c .before .before .before .before .if2 .left)) (every-here _ _ (lt-leb _ _ (c .if6 .taken)) ∙ every-skip _ _ (sym (c .before .before .before .passes .ensures) ∙ not-false _ (c .before .before .if5 .left))))
 
--- src/checking.rt:76:1
 returns-7 : tie.Need-returns-7
 unfolding numberFits
 returns-7 c = unless _ _ _ _ (lt-leb _ _ (c .before .before .before .before .before .before .before .if1 .left)) (unless _ _ _ _ (ne-eqb _ _ (c .before .before .before .before .before .if2 .left)) (every-last _ ∙ every-skip _ _ (le-leb _ _ (c .before .if6 .left)) ∙ every-skip _ _ (sym (c .before .before .before .before .passes .ensures) ∙ not-false _ (c .before .before .before .if5 .left))))

@@ -1,16 +1,13 @@
+-- `sender::checking::passes` meets its contract: each way out is an instance of a law.
 use mathlib.Core.Path.{refl}
 use borrow.Author.Tests.{eq-eqb, ne-eqb}
 use Rattle.common.specs.Choice.{when, unless}
 use Rattle.sender.proofs.checking.passes.Statement.{statement}
 use Rattle.sender.proofs.checking.passes.Tie as tie
-use Rattle.sender.proofs.checking.passes.Reads as reads
-use Rattle.sender.proofs.checking.passes.Lts as lts
 
--- src/checking.rt:70:9
 returns : tie.Need-returns
 returns c = when _ _ _ _ (eq-eqb _ _ (c .if1 .taken)) refl
 
--- src/checking.rt:66:1
 returns-2 : tie.Need-returns-2
 returns-2 c = unless _ _ _ _ (ne-eqb _ _ (c .if1 .left)) refl
 

@@ -1,43 +1,34 @@
+-- `sender::checking::range_fits` meets its contract: each way out is an instance of a law.
 use mathlib.Core.Path.{_∙_}
-use native.Mathlib.Omega.{arith}
 use borrow.Author.Tests.{le-leb, lt-leb}
 use Rattle.sender.specs.Bounds.{rangeOf}
 use Rattle.sender.proofs.Tests.{every-here, every-skip, every-last}
 use borrow.Author.Needs.{needs}
 use Rattle.sender.proofs.checking.range_fits.Statement.{statement}
 use Rattle.sender.proofs.checking.range_fits.Tie as tie
-use Rattle.sender.proofs.checking.range_fits.Reads as reads
-use Rattle.sender.proofs.checking.range_fits.Lts as lts
 
--- src/checking.rt:18:9
 returns : tie.Need-returns
 unfolding rangeOf
 returns c = every-here _ _ (lt-leb _ _ (c .if1 .taken))
 
--- src/checking.rt:21:9
 returns-2 : tie.Need-returns-2
 unfolding rangeOf
 returns-2 c = every-here _ _ (lt-leb _ _ (c .if2 .taken)) ∙ every-skip _ _ (le-leb _ _ (c .before .if1 .left))
 
--- src/checking.rt:24:9
 returns-3 : tie.Need-returns-3
 unfolding rangeOf
 returns-3 c = every-here _ _ (lt-leb _ _ (c .if3 .taken)) ∙ every-skip _ _ (le-leb _ _ (c .before .if2 .left)) ∙ every-skip _ _ (le-leb _ _ (c .before .before .if1 .left))
 
--- src/checking.rt:26:8
 add-if4 : tie.Need-add-if4
 add-if4 c = search needs
 
--- src/checking.rt:27:9
 returns-4 : tie.Need-returns-4
 unfolding rangeOf
 returns-4 c = every-here _ _ (lt-leb _ _ (c .if4 .taken)) ∙ every-skip _ _ (le-leb _ _ (c .before .if3 .left)) ∙ every-skip _ _ (le-leb _ _ (c .before .before .if2 .left)) ∙ every-skip _ _ (le-leb _ _ (c .before .before .before .if1 .left))
 
--- src/checking.rt:29:13
 add-result : tie.Need-add-result
 add-result c = search needs
 
--- src/checking.rt:14:1
 returns-5 : tie.Need-returns-5
 unfolding rangeOf
 returns-5 c = every-last _ ∙ every-skip _ _ (le-leb _ _ (c .if4 .left)) ∙ every-skip _ _ (le-leb _ _ (c .before .if3 .left)) ∙ every-skip _ _ (le-leb _ _ (c .before .before .if2 .left)) ∙ every-skip _ _ (le-leb _ _ (c .before .before .before .if1 .left))

@@ -1,13 +1,8 @@
-use mathlib.Core.Path.{_∙_}
+-- `sender::checking::sound` meets its contract: each way out is an instance of a law.
 use borrow.Author.Needs.{needs}
-use borrow.Author.Tests.{eq-eqb, ne-eqb}
-use Rattle.sender.specs.Consistent.{consistentOf, soundOf}
 use Rattle.sender.proofs.Passing.{unsized, sound-as}
 use Rattle.sender.proofs.checking.sound.Statement.{statement}
 use Rattle.sender.proofs.checking.sound.Tie as tie
-use Rattle.sender.proofs.checking.sound.Reads as reads
-use Rattle.sender.proofs.checking.sound.Lts as lts
-use Rattle.sender.proofs.checking.consistent.Reads as consistent-reads
 
 returns : tie.Need-returns
 returns c = unsized _ _ (c .if1 .taken)

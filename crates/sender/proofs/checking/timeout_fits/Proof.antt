@@ -1,18 +1,15 @@
+-- `sender::checking::timeout_fits` meets its contract: each way out is an instance of a law.
 use mathlib.Core.Path.{_∙_}
 use borrow.Author.Tests.{le-leb, lt-leb}
 use Rattle.sender.specs.Bounds.{timeoutOf}
 use Rattle.sender.proofs.Tests.{every-here, every-skip, every-last}
 use Rattle.sender.proofs.checking.timeout_fits.Statement.{statement}
 use Rattle.sender.proofs.checking.timeout_fits.Tie as tie
-use Rattle.sender.proofs.checking.timeout_fits.Reads as reads
-use Rattle.sender.proofs.checking.timeout_fits.Lts as lts
 
--- src/checking.rt:37:9
 returns : tie.Need-returns
 unfolding timeoutOf
 returns c = every-here _ _ (lt-leb _ _ (c .if1 .taken))
 
--- src/checking.rt:33:1
 returns-2 : tie.Need-returns-2
 unfolding timeoutOf
 returns-2 c = every-last _ ∙ every-skip _ _ (le-leb _ _ (c .if1 .left))

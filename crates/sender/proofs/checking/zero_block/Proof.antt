@@ -1,18 +1,15 @@
+-- `sender::checking::zero_block` meets its contract: each way out is an instance of a law.
 use mathlib.Core.Path.{_∙_}
 use borrow.Author.Tests.{eq-eqb, ne-eqb}
 use Rattle.sender.specs.Consistent.{zeroBlock}
 use Rattle.sender.proofs.Tests.{every-here, every-skip, every-last}
 use Rattle.sender.proofs.checking.zero_block.Statement.{statement}
 use Rattle.sender.proofs.checking.zero_block.Tie as tie
-use Rattle.sender.proofs.checking.zero_block.Reads as reads
-use Rattle.sender.proofs.checking.zero_block.Lts as lts
 
--- src/checking.rt:60:9
 returns : tie.Need-returns
 unfolding zeroBlock
 returns c = every-here _ _ (ne-eqb _ _ (c .if1 .taken))
 
--- src/checking.rt:56:1
 returns-2 : tie.Need-returns-2
 unfolding zeroBlock
 returns-2 c = every-last _ ∙ every-skip _ _ (eq-eqb _ _ (c .before .if1 .left))

@@ -1,23 +1,19 @@
+-- `sender::checking::zero_number` meets its contract: each way out is an instance of a law.
 use mathlib.Core.Path.{_∙_}
 use borrow.Author.Tests.{eq-eqb, ne-eqb}
 use Rattle.sender.specs.Consistent.{zeroNumber}
 use Rattle.sender.proofs.Tests.{every-here, every-skip, every-last}
 use Rattle.sender.proofs.checking.zero_number.Statement.{statement}
 use Rattle.sender.proofs.checking.zero_number.Tie as tie
-use Rattle.sender.proofs.checking.zero_number.Reads as reads
-use Rattle.sender.proofs.checking.zero_number.Lts as lts
 
--- src/checking.rt:47:9
 returns : tie.Need-returns
 unfolding zeroNumber
 returns c = every-here _ _ (ne-eqb _ _ (c .if1 .taken))
 
--- src/checking.rt:50:9
 returns-2 : tie.Need-returns-2
 unfolding zeroNumber
 returns-2 c = every-here _ _ (ne-eqb _ _ (c .if2 .taken)) ∙ every-skip _ _ (eq-eqb _ _ (c .before .before .if1 .left))
 
--- src/checking.rt:43:1
 returns-3 : tie.Need-returns-3
 unfolding zeroNumber
 returns-3 c = every-last _ ∙ every-skip _ _ (eq-eqb _ _ (c .before .if2 .left)) ∙ every-skip _ _ (eq-eqb _ _ (c .before .before .before .if1 .left))

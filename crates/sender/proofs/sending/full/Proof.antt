@@ -1,25 +1,20 @@
+-- `sender::sending::full` meets its contract: each way out is an instance of a law.
 use mathlib.Core.Path.{refl}
 use borrow.Author.Tests.{le-leb, lt-leb}
 use Rattle.common.specs.Choice.{when, unless}
 use borrow.Author.Needs.{needs}
 use Rattle.sender.proofs.sending.full.Statement.{statement}
 use Rattle.sender.proofs.sending.full.Tie as tie
-use Rattle.sender.proofs.sending.full.Reads as reads
-use Rattle.sender.proofs.sending.full.Lts as lts
 
--- src/sending.rt:71:8
 add-if1 : tie.Need-add-if1
 add-if1 c = search needs
 
--- src/sending.rt:72:9
 returns : tie.Need-returns
 returns c = when _ _ _ _ (le-leb _ _ (c .if1 .taken)) refl
 
--- src/sending.rt:74:5
 add-result : tie.Need-add-result
 add-result c = search needs
 
--- src/sending.rt:67:1
 returns-2 : tie.Need-returns-2
 returns-2 c = unless _ _ _ _ (lt-leb _ _ (c .if1 .left)) refl
 

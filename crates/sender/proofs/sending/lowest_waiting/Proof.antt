@@ -1,3 +1,4 @@
+-- `sender::sending::lowest_waiting` meets its contract: each way out is an instance of a law.
 use Prim.Native.Nat.{_-_}
 use mathlib.Core.Path.{_≡_}
 use native.Mathlib.Omega.{arith}
@@ -7,8 +8,6 @@ use Rattle.sender.specs.Send.{waitingFrom, lowestWaiting}
 use Rattle.sender.proofs.Resent.{waiting-start, waiting-here, waiting-next, waiting-none}
 use Rattle.sender.proofs.sending.lowest_waiting.Statement.{statement}
 use Rattle.sender.proofs.sending.lowest_waiting.Tie as tie
-use Rattle.sender.proofs.sending.lowest_waiting.Reads as reads
-use Rattle.sender.proofs.sending.lowest_waiting.Lts as lts
 
 abbrev Inv-loop : tie.InvT-loop
 Inv-loop s next c₀ c = waitingFrom 32 s c (next - c) ≡ lowestWaiting 32 s
@@ -16,35 +15,27 @@ Inv-loop s next c₀ c = waitingFrom 32 s c (next - c) ≡ lowestWaiting 32 s
 abbrev μ-loop : tie.MeasureT-loop
 μ-loop s next c₀ c = next - c
 
--- src/sending.rt:170:5
 loop-holds : tie.Need-loop-holds Inv-loop μ-loop
 loop-holds c = waiting-start _
 
--- src/sending.rt:171:17
 mul-b : tie.Need-mul-b Inv-loop μ-loop
 mul-b c = search needs
 
--- src/sending.rt:171:17
 element-copy-out-b : tie.Need-element-copy-out-b Inv-loop μ-loop
 element-copy-out-b c = search needs
 
--- src/sending.rt:173:13
 returns : tie.Need-returns Inv-loop μ-loop
 returns c = waiting-here _ (c .before .before .before .before .loop .c) _ (omega arith) (eq-eqb _ _ (c .if1 .taken)) (c .before .before .before .before .loop .inv)
 
--- src/sending.rt:175:9
 add-c : tie.Need-add-c Inv-loop μ-loop
 add-c c = search needs
 
--- src/sending.rt:170:5
 loop-less : tie.Need-loop-less Inv-loop μ-loop
 loop-less c = search needs
 
--- src/sending.rt:170:5
 loop-again : tie.Need-loop-again Inv-loop μ-loop
 loop-again c = waiting-next _ (c .before .before .before .before .loop .c) _ (omega arith) (ne-eqb _ _ (c .if1 .left)) (c .before .before .before .before .loop .inv)
 
--- src/sending.rt:165:1
 returns-2 : tie.Need-returns-2 Inv-loop μ-loop
 returns-2 c = waiting-none _ (c .before .loop .c) _ (omega arith) (c .before .loop .inv)
 

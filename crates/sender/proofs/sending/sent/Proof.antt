@@ -1,43 +1,31 @@
-use mathlib.Core.Path.{_≡_, ap}
-use Prim.Native.Nat.{ℕ, _+_}
+-- `sender::sending::sent` meets its contract: each way out is an instance of a law.
+use Prim.Native.Nat.{_+_}
 use lib.ListN.{set}
 use borrow.Author.Needs.{needs}
 use Rattle.sender.proofs.sending.sent.Statement.{statement}
 use Rattle.sender.proofs.sending.sent.Tie as tie
-use Rattle.sender.proofs.sending.sent.Reads as reads
-use Rattle.sender.proofs.sending.sent.Lts as lts
-use Rattle.window.proofs.channel_place.Reads as channel-place-reads
-use Rattle.window.proofs.data_place.Reads as data-place-reads
 
--- src/sending.rt:83:9
 data-place-requires : tie.Need-data-place-requires
 data-place-requires c κs = search needs
 
--- src/sending.rt:84:9
 channel-place-requires : tie.Need-channel-place-requires
 channel-place-requires c κs = search needs
 
--- src/sending.rt:86:27
 add-t13 : tie.Need-add-t13
 add-t13 c = search needs
 
--- src/sending.rt:91:5
 mul-t15 : tie.Need-mul-t15
 mul-t15 c = search needs
 
--- src/sending.rt:91:5
 element-set-from-q : tie.Need-element-set-from-q
 element-set-from-q c = search needs
 
--- src/sending.rt:96:5
 mul-t15-2 : tie.Need-mul-t15-2
 mul-t15-2 c = search needs
 
--- src/sending.rt:96:5
 element-set-from-q-2 : tie.Need-element-set-from-q-2
 element-set-from-q-2 c = search needs
 
--- src/sending.rt:78:1
 returns : tie.Need-returns
 returns c = let s = c .before .before .args .s in
     λ i. record {

@@ -1,3 +1,4 @@
+-- `sender::sweeping::loses` meets its contract: each way out is an instance of a law.
 use mathlib.Core.Path.{refl, ap}
 use lib.Dec.{leb}
 use borrow.Author.Tests.{le-leb, lt-leb}
@@ -5,19 +6,13 @@ use Rattle.common.specs.Choice.{when, unless}
 use borrow.Author.Needs.{needs}
 use Rattle.sender.proofs.sweeping.loses.Statement.{statement}
 use Rattle.sender.proofs.sweeping.loses.Tie as tie
-use Rattle.sender.proofs.sweeping.loses.Reads as reads
-use Rattle.sender.proofs.sweeping.loses.Lts as lts
-use Rattle.numbers.proofs.age.Reads as age-reads
 
--- src/sweeping.rt:33:9
 returns : tie.Need-returns
 returns c = when _ _ _ _ (le-leb _ _ (c .if1 .taken)) refl
 
--- src/sweeping.rt:35:9
 age-requires : tie.Need-age-requires
 age-requires c κs = search needs
 
--- src/sweeping.rt:29:1
 returns-2 : tie.Need-returns-2
 returns-2 c = unless _ _ _ _ (lt-leb _ _ (c .before .if1 .left)) (ap (leb (c .before .before .args .timeout)) (c .age .ensures))
 

@@ -1,3 +1,4 @@
+-- `sender::sweeping::sweep` meets its contract: each way out is an instance of a law.
 use mathlib.Core.Path.{sym, _∙_}
 use borrow.Author.Tests.{not-true, not-false}
 use Rattle.sender.proofs.Acked.{lows-fit}
@@ -5,29 +6,19 @@ use Rattle.sender.proofs.Swept.{swept-unfit, swept-fit}
 use borrow.Author.Needs.{needs}
 use Rattle.sender.proofs.sweeping.sweep.Statement.{statement}
 use Rattle.sender.proofs.sweeping.sweep.Tie as tie
-use Rattle.sender.proofs.sweeping.sweep.Reads as reads
-use Rattle.sender.proofs.sweeping.sweep.Lts as lts
-use Rattle.sender.proofs.checking.consistent.Reads as consistent-reads
-use Rattle.sender.proofs.sweeping.judge_all.Reads as judge-all-reads
-use Rattle.sender.proofs.turning.turn.Reads as turn-reads
 
--- src/sweeping.rt:83:9
 consistent-requires : tie.Need-consistent-requires
 consistent-requires c κs = search needs
 
--- src/sweeping.rt:84:9
 returns : tie.Need-returns
 returns c = swept-unfit _ _ (sym (c .before .consistent .ensures) ∙ not-true _ (c .if1 .taken))
 
--- src/sweeping.rt:90:9
 judge-all-requires : tie.Need-judge-all-requires
 judge-all-requires c κs = lows-fit _ (sym (c .before .consistent .ensures) ∙ not-false _ (c .if1 .left)) .0
 
--- src/sweeping.rt:92:9
 turn-requires : tie.Need-turn-requires
 turn-requires c κs = let f = lows-fit _ (sym (c .before .before .before .consistent .ensures) ∙ not-false _ (c .before .before .if1 .left)) in (f .0, f .1)
 
--- src/sweeping.rt:78:1
 returns-2 : tie.Need-returns-2
 returns-2 c =
     swept-fit _ _ _ _ _ (sym (c .before .before .before .before .consistent .ensures) ∙ not-false _ (c .before .before .before .if1 .left))

@@ -1,3 +1,4 @@
+-- `sender::turning::turn` meets its contract: each way out is an instance of a law.
 use Prim.Native.Nat.{_+_, _-_, _≤_}
 use mathlib.Core.Logic.{⊎-elim}
 use mathlib.Core.Path.{_≡_, refl, sym, _∙_}
@@ -9,10 +10,6 @@ use Rattle.sender.specs.Turn.{turnUpTo, numbersMoved, blocksMoved}
 use Rattle.sender.proofs.Turned.{turn-none, turn-step, turn-skip, turned-low, numbers-more, numbers-stopped, numbers-ended, moved-channellow, blocks-more, blocks-stop, blocks-end, turned-whole}
 use Rattle.sender.proofs.turning.turn.Statement.{statement}
 use Rattle.sender.proofs.turning.turn.Tie as tie
-use Rattle.sender.proofs.turning.turn.Reads as reads
-use Rattle.sender.proofs.turning.turn.Lts as lts
-use Rattle.sender.proofs.checking.passes.Reads as passes-reads
-use Rattle.sender.proofs.turning.turns.Reads as turns-reads
 
 abbrev Inv-loop : tie.InvT-loop
 Inv-loop upto number block flags low q₀ i₀ q i = (i ≤ 32) × (q ≡ turnUpTo 32 (record { number = number; block = block }) (chosenBy 32 flags upto) q₀ i)
@@ -32,67 +29,52 @@ Inv-loop3 upto number block low q₀ i k m₀ q m = (m ≤ 32) × (q .channellow
 abbrev μ-loop3 : tie.MeasureT-loop3
 μ-loop3 upto number block low q₀ i k m₀ q m = 32 - m
 
--- src/turning.rt:37:5
 loop-holds : tie.Need-loop-holds Inv-loop μ-loop Inv-loop2 μ-loop2 Inv-loop3 μ-loop3
 loop-holds c = (search needs, turn-none _ _ _)
 
--- src/turning.rt:38:17
 add-n : tie.Need-add-n Inv-loop μ-loop Inv-loop2 μ-loop2 Inv-loop3 μ-loop3
 add-n c = search needs
 
--- src/turning.rt:40:17
 mul-p : tie.Need-mul-p Inv-loop μ-loop Inv-loop2 μ-loop2 Inv-loop3 μ-loop3
 mul-p c = search needs
 
--- src/turning.rt:40:17
 element-copy-out-p :
     tie.Need-element-copy-out-p Inv-loop μ-loop Inv-loop2 μ-loop2 Inv-loop3 μ-loop3
 element-copy-out-p c = search needs
 
--- src/turning.rt:41:27
 array-read-turns : tie.Need-array-read-turns Inv-loop μ-loop Inv-loop2 μ-loop2 Inv-loop3 μ-loop3
 array-read-turns c = search needs
 
--- src/turning.rt:41:12
 turns-requires : tie.Need-turns-requires Inv-loop μ-loop Inv-loop2 μ-loop2 Inv-loop3 μ-loop3
 turns-requires c κs = search needs
 
--- src/turning.rt:44:21
 mul-b : tie.Need-mul-b Inv-loop μ-loop Inv-loop2 μ-loop2 Inv-loop3 μ-loop3
 mul-b c = search needs
 
--- src/turning.rt:44:21
 element-copy-out-b :
     tie.Need-element-copy-out-b Inv-loop μ-loop Inv-loop2 μ-loop2 Inv-loop3 μ-loop3
 element-copy-out-b c = search needs
 
--- src/turning.rt:45:13
 mul-t36 : tie.Need-mul-t36 Inv-loop μ-loop Inv-loop2 μ-loop2 Inv-loop3 μ-loop3
 mul-t36 c = search needs
 
--- src/turning.rt:45:13
 element-set-from-q :
     tie.Need-element-set-from-q Inv-loop μ-loop Inv-loop2 μ-loop2 Inv-loop3 μ-loop3
 element-set-from-q c = search needs
 
--- src/turning.rt:46:13
 mul-t36-2 : tie.Need-mul-t36-2 Inv-loop μ-loop Inv-loop2 μ-loop2 Inv-loop3 μ-loop3
 mul-t36-2 c = search needs
 
--- src/turning.rt:46:13
 element-set-from-q-2 :
     tie.Need-element-set-from-q-2 Inv-loop μ-loop Inv-loop2 μ-loop2 Inv-loop3 μ-loop3
 element-set-from-q-2 c = search needs
 
--- src/turning.rt:48:9
 add-i : tie.Need-add-i Inv-loop μ-loop Inv-loop2 μ-loop2 Inv-loop3 μ-loop3
 add-i c = search needs
 
--- src/turning.rt:37:5
 loop-less : tie.Need-loop-less Inv-loop μ-loop Inv-loop2 μ-loop2 Inv-loop3 μ-loop3
 loop-less c = search needs
 
--- src/turning.rt:37:5
 loop-again : tie.Need-loop-again Inv-loop μ-loop Inv-loop2 μ-loop2 Inv-loop3 μ-loop3
 unfolding chosenBy
 loop-again c = ⊎-elim
@@ -100,62 +82,48 @@ loop-again c = ⊎-elim
     (λ w. (omega arith, w .1 ∙ turn-skip _ _ (c .before .before .before .before .before .args .s) (c .before .before .before .before .loop .q) (c .before .before .before .before .loop .i) (c .before .before .before .before .loop .inv .1) (sym (c .before .turns .ensures) ∙ w .0 .left)))
     (c .if1 .came)
 
--- src/turning.rt:51:5
 loop2-holds : tie.Need-loop2-holds Inv-loop μ-loop Inv-loop2 μ-loop2 Inv-loop3 μ-loop3
 loop2-holds c = (search needs, search needs, refl)
 
--- src/turning.rt:54:17
 mul-p-2 : tie.Need-mul-p-2 Inv-loop μ-loop Inv-loop2 μ-loop2 Inv-loop3 μ-loop3
 mul-p-2 c = search needs
 
--- src/turning.rt:54:17
 element-copy-out-p-2 :
     tie.Need-element-copy-out-p-2 Inv-loop μ-loop Inv-loop2 μ-loop2 Inv-loop3 μ-loop3
 element-copy-out-p-2 c = search needs
 
--- src/turning.rt:55:13
 passes-requires : tie.Need-passes-requires Inv-loop μ-loop Inv-loop2 μ-loop2 Inv-loop3 μ-loop3
 passes-requires c κs = search needs
 
--- src/turning.rt:58:9
 mul-t47 : tie.Need-mul-t47 Inv-loop μ-loop Inv-loop2 μ-loop2 Inv-loop3 μ-loop3
 mul-t47 c = search needs
 
--- src/turning.rt:58:9
 element-set-from-q-3 :
     tie.Need-element-set-from-q-3 Inv-loop μ-loop Inv-loop2 μ-loop2 Inv-loop3 μ-loop3
 element-set-from-q-3 c = search needs
 
--- src/turning.rt:59:32
 add-t46 : tie.Need-add-t46 Inv-loop μ-loop Inv-loop2 μ-loop2 Inv-loop3 μ-loop3
 add-t46 c = let e = turned-low (record { number = c .before .before .before .before .before .before .before .args .number; block = c .before .before .before .before .before .before .before .args .block }) (chosenBy 32 (c .before .before .before .before .before .before .before .args .t2) (c .before .before .before .before .before .before .before .args .upto)) (c .before .before .before .before .before .before .before .args .s) (c .before .before .before .before .before .before .loop .q) (c .before .before .before .before .before .before .loop .i) (c .before .before .before .before .before .before .loop .inv .1) in omega arith
 
--- src/turning.rt:61:9
 add-k : tie.Need-add-k Inv-loop μ-loop Inv-loop2 μ-loop2 Inv-loop3 μ-loop3
 add-k c = search needs
 
--- src/turning.rt:51:5
 loop2-less : tie.Need-loop2-less Inv-loop μ-loop Inv-loop2 μ-loop2 Inv-loop3 μ-loop3
 loop2-less c = search needs
 
--- src/turning.rt:51:5
 loop2-again : tie.Need-loop2-again Inv-loop μ-loop Inv-loop2 μ-loop2 Inv-loop3 μ-loop3
 loop2-again c = (search needs, search needs, numbers-more _ _ (c .before .before .before .before .loop2 .q) (omega arith) (sym (c .before .passes .ensures) ∙ not-false _ (c .if2 .left)) ∙ c .before .before .before .before .loop2 .inv .2)
 
--- src/turning.rt:64:5
 loop3-holds : tie.Need-loop3-holds Inv-loop μ-loop Inv-loop2 μ-loop2 Inv-loop3 μ-loop3
 loop3-holds c = (search needs, search needs, refl)
 
--- src/turning.rt:67:17
 mul-b-2 : tie.Need-mul-b-2 Inv-loop μ-loop Inv-loop2 μ-loop2 Inv-loop3 μ-loop3
 mul-b-2 c = search needs
 
--- src/turning.rt:67:17
 element-copy-out-b-2 :
     tie.Need-element-copy-out-b-2 Inv-loop μ-loop Inv-loop2 μ-loop2 Inv-loop3 μ-loop3
 element-copy-out-b-2 c = search needs
 
--- src/turning.rt:69:13
 returns : tie.Need-returns Inv-loop μ-loop Inv-loop2 μ-loop2 Inv-loop3 μ-loop3
 returns c = let ex : c .before .before .before .before .before .before .loop2 .q ≡ numbersMoved 32 32 (c .before .before .before .before .before .before .before .before .loop .q) =
     ⊎-elim
@@ -164,16 +132,13 @@ returns c = let ex : c .before .before .before .before .before .before .loop2 .q
     (c .before .before .before .before .before .loop2-test .came) in
     turned-whole _ _ _ (c .before .before .before .before .before .before .before .before .loop .q) (c .before .before .before .before .before .before .loop2 .q) _ (c .before .before .before .before .before .before .before .before .loop .i) (omega arith) (c .before .before .before .before .before .before .before .before .loop .inv .1) ex (blocks-stop _ (c .before .before .before .before .loop3 .q) (ne-eqb _ _ (c .if3 .taken)) ∙ c .before .before .before .before .loop3 .inv .2)
 
--- src/turning.rt:71:9
 mul-t57 : tie.Need-mul-t57 Inv-loop μ-loop Inv-loop2 μ-loop2 Inv-loop3 μ-loop3
 mul-t57 c = search needs
 
--- src/turning.rt:71:9
 element-set-from-q-4 :
     tie.Need-element-set-from-q-4 Inv-loop μ-loop Inv-loop2 μ-loop2 Inv-loop3 μ-loop3
 element-set-from-q-4 c = search needs
 
--- src/turning.rt:72:35
 add-t56 : tie.Need-add-t56 Inv-loop μ-loop Inv-loop2 μ-loop2 Inv-loop3 μ-loop3
 add-t56 c = let ex : c .before .before .before .before .before .before .loop2 .q ≡ numbersMoved 32 32 (c .before .before .before .before .before .before .before .before .loop .q) =
     ⊎-elim
@@ -182,19 +147,15 @@ add-t56 c = let ex : c .before .before .before .before .before .before .loop2 .q
     (c .before .before .before .before .before .loop2-test .came) in
     let e = moved-channellow (record { number = c .before .before .before .before .before .before .before .before .before .args .number; block = c .before .before .before .before .before .before .before .before .before .args .block }) (chosenBy 32 (c .before .before .before .before .before .before .before .before .before .args .t2) (c .before .before .before .before .before .before .before .before .before .args .upto)) (c .before .before .before .before .before .before .before .before .before .args .s) (c .before .before .before .before .before .before .before .before .loop .q) (c .before .before .before .before .before .before .loop2 .q) (c .before .before .before .before .before .before .before .before .loop .i) (c .before .before .before .before .before .before .before .before .loop .inv .1) ex in omega arith
 
--- src/turning.rt:74:9
 add-m : tie.Need-add-m Inv-loop μ-loop Inv-loop2 μ-loop2 Inv-loop3 μ-loop3
 add-m c = search needs
 
--- src/turning.rt:64:5
 loop3-less : tie.Need-loop3-less Inv-loop μ-loop Inv-loop2 μ-loop2 Inv-loop3 μ-loop3
 loop3-less c = search needs
 
--- src/turning.rt:64:5
 loop3-again : tie.Need-loop3-again Inv-loop μ-loop Inv-loop2 μ-loop2 Inv-loop3 μ-loop3
 loop3-again c = (search needs, search needs, blocks-more _ _ (c .before .before .before .before .loop3 .q) (omega arith) (eq-eqb _ _ (c .if3 .left)) ∙ c .before .before .before .before .loop3 .inv .2)
 
--- src/turning.rt:30:1
 returns-2 : tie.Need-returns-2 Inv-loop μ-loop Inv-loop2 μ-loop2 Inv-loop3 μ-loop3
 returns-2 c = let ex : c .before .before .before .loop2 .q ≡ numbersMoved 32 32 (c .before .before .before .before .before .loop .q) =
     ⊎-elim
