@@ -11,6 +11,7 @@ pub mod StaysSound
 pub mod AnyOrderOfData
 pub mod AnyOrderOfAcknowledgements
 pub mod CanBeMet
+pub mod ThirtyTwoCanBeMet
 pub mod Steps
 pub mod Follows
 pub mod Keeps
