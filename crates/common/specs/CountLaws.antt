@@ -1,8 +1,10 @@
 -- What a count over the numbers below a bound tells, and how to show what it is.
-use Prim.Native.Nat.{ℕ, zero, suc, _≤_, _<_}
+use Prim.Native.Nat.{ℕ, zero, suc, _+_, _≤_, _<_}
 use mathlib.Core.Bool.{Bool, true, false, cond}
 use mathlib.Core.Logic.{⊎-elim}
 use mathlib.Core.Path.{_≡_, refl, sym, _∙_, ap}
+use native.Mathlib.Nat.{add-zero, add-suc}
+use native.Mathlib.Numerals.{add-one}
 use native.Mathlib.Omega.{arith}
 use Rattle.common.specs.Every.{countBelow}
 use Rattle.common.specs.Facts.{lt-or-ge, bool, clash, not-so}
@@ -19,6 +21,28 @@ count-no p n t = ap (λ (b : Bool). cond b (suc (countBelow p n)) (countBelow p 
 count-zero : (p : ℕ → Bool) → countBelow p zero ≡ 0
 unfolding countBelow
 count-zero p = refl
+
+-- 1 for a test that passes
+abbrev pub one : Bool → ℕ
+one b = cond b 1 0
+
+pub count-none : (p : ℕ → Bool) → countBelow p 0 ≡ 0
+count-none p = count-zero p
+
+count-suc : (p : ℕ → Bool) (n : ℕ) → countBelow p (suc n) ≡ countBelow p n + one (p n)
+unfolding countBelow
+count-suc p n = ⊎-elim (λ (t : p n ≡ true). rw t (sym (add-one (countBelow p n)))) (λ (t : p n ≡ false). rw t (sym (add-zero (countBelow p n)))) (bool (p n))
+
+pub count-next : (p : ℕ → Bool) (n : ℕ) → countBelow p (n + 1) ≡ countBelow p n + one (p n)
+count-next p n = ap (countBelow p) (add-one n) ∙ count-suc p n
+
+-- More numbers, no smaller a count.
+pub count-grows : (p : ℕ → Bool) (n m : ℕ) → countBelow p n ≤ countBelow p (n + m)
+count-grows p n zero = let e : countBelow p (n + 0) ≡ countBelow p n = ap (countBelow p) (add-zero n) in omega arith
+count-grows p n (suc m) =
+    let k : countBelow p n ≤ countBelow p (n + m) = count-grows p n m in
+    let e : countBelow p (n + suc m) ≡ countBelow p (n + m) + one (p (n + m)) = ap (countBelow p) (add-suc n m) ∙ count-suc p (n + m) in
+    omega arith
 
 -- A count above 0 has a number that the test holds for.
 pub some-at : (p : ℕ → Bool) (n : ℕ) → 0 < countBelow p n → (i : ℕ) × (i < n) × (p i ≡ true)

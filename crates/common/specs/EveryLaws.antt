@@ -1,12 +1,14 @@
 -- What tests that all pass tell, and how to show that they do.
-use Prim.Native.Nat.{ℕ, zero, suc, _<_}
+use Prim.Native.Nat.{ℕ, zero, suc, _+_, _<_}
 use mathlib.Core.Bool.{Bool, true, false, cond}
-use mathlib.Core.List.{List, [], _∷_}
+use mathlib.Core.List.{List, [], _∷_, _++_}
 use mathlib.Core.Logic.{⊎-elim}
 use mathlib.Core.Path.{_≡_, refl, sym, _∙_, ap}
+use native.Mathlib.Numerals.{add-one}
 use native.Mathlib.Omega.{arith}
+use lib.ListN.{getD}
 use Rattle.common.specs.Every.{every, allBelow, implies}
-use Rattle.common.specs.Facts.{lt-or-ge, clash}
+use Rattle.common.specs.Facts.{lt-or-ge, clash, not-so}
 
 -- the tests of a list, one by one
 abbrev pub AllTrue : List Bool → Type 0
@@ -25,6 +27,61 @@ all-every [] h = refl
 all-every (true ∷ bs) h = all-every bs (h .1)
 all-every (false ∷ bs) h = h .0
 
+-- one test after the other
+pub every-at : (bs : List Bool) → every bs ≡ true → (i : ℕ) → getD bs i true ≡ true
+unfolding every
+every-at [] h i = refl
+every-at (true ∷ bs) h zero = refl
+every-at (false ∷ bs) h zero = h
+every-at (true ∷ bs) h (suc i) = every-at bs h i
+every-at (false ∷ bs) h (suc i) = clash false h refl
+
+pub every-fails : (bs : List Bool) (i : ℕ) → getD bs i true ≡ false → false ≡ every bs
+unfolding every
+every-fails [] i h = clash true refl h
+every-fails (b ∷ bs) zero h = rw h refl
+every-fails (true ∷ bs) (suc i) h = every-fails bs i h
+every-fails (false ∷ bs) (suc i) h = refl
+
+pub every-skip : (b : Bool) (bs : List Bool) → b ≡ true → every bs ≡ every (b ∷ bs)
+unfolding every
+every-skip b bs h = rw h refl
+
+pub every-later : (b : Bool) (bs : List Bool) → false ≡ every bs → false ≡ every (b ∷ bs)
+unfolding every
+every-later true bs h = h
+every-later false bs h = refl
+
+pub every-one : (b : Bool) (bs : List Bool) → every bs ≡ true → b ≡ every (b ∷ bs)
+unfolding every
+every-one true bs h = sym h
+every-one false bs h = refl
+
+pub every-last : (b : Bool) → b ≡ every (b ∷ [])
+unfolding every
+every-last b = every-one b [] refl
+
+pub every-none : every [] ≡ true
+unfolding every
+every-none = refl
+
+pub every-made : (b : Bool) (bs : List Bool) → b ≡ true → every bs ≡ true → every (b ∷ bs) ≡ true
+unfolding every
+every-made b bs h t = rw (h, t) refl
+
+-- some tests before others
+pub every-front : (xs bs : List Bool) → false ≡ every xs → false ≡ every (xs ++ bs)
+unfolding every
+every-front [] bs h = clash true refl (sym h)
+every-front (true ∷ xs) bs h = every-front xs bs h
+every-front (false ∷ xs) bs h = refl
+
+pub every-back : (xs bs : List Bool) → every xs ≡ true → every bs ≡ every (xs ++ bs)
+unfolding every
+every-back [] bs h = refl
+every-back (true ∷ xs) bs h = every-back xs bs h
+every-back (false ∷ xs) bs h = clash false h refl
+
 -- a test for every number below n
 pub all-at : (p : ℕ → Bool) (n : ℕ) → allBelow p n ≡ true → (i : ℕ) → i < n → p i ≡ true
 unfolding allBelow
@@ -40,6 +97,20 @@ unfolding allBelow
 all-from p zero h = refl
 all-from p (suc n) h = ap (λ (b : Bool). cond b (allBelow p n) false) (h n (omega arith)) ∙ all-from p n (λ i l. h i (omega arith))
 
+pub all-none : (p : ℕ → Bool) → allBelow p 0 ≡ true
+unfolding allBelow
+all-none p = refl
+
+pub all-more : (p : ℕ → Bool) (n : ℕ) → allBelow p n ≡ true → p n ≡ true → allBelow p (n + 1) ≡ true
+unfolding allBelow
+all-more p n h t = rw (add-one n, t) h
+
+pub all-fails : (p : ℕ → Bool) (n i : ℕ) → i < n → p i ≡ false → false ≡ allBelow p n
+all-fails p n i l h = sym (not-so (allBelow p n) (λ t. clash (p i) (all-at p n t i l) h))
+
+pub all-done : (p : ℕ → Bool) (n i : ℕ) → i ≡ n → allBelow p i ≡ true → true ≡ allBelow p n
+all-done p n i e h = rw (← e) (sym h)
+
 -- a test that is asked for only where another passes
 pub implied : (a b : Bool) → implies a b ≡ true → a ≡ true → b ≡ true
 unfolding implies
@@ -49,3 +120,11 @@ pub imply : (a b : Bool) → (a ≡ true → b ≡ true) → implies a b ≡ tru
 unfolding implies
 imply true b f = f refl
 imply false b f = refl
+
+pub implies-if : (a b : Bool) → a ≡ true → b ≡ implies a b
+unfolding implies
+implies-if a b h = rw h refl
+
+pub implies-else : (a b : Bool) → a ≡ false → true ≡ implies a b
+unfolding implies
+implies-else a b h = rw h refl

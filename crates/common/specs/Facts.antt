@@ -44,3 +44,7 @@ or-right false b h = h
 pub or-cases : (a b : Bool) → (a || b) ≡ true → (a ≡ true) ⊎ (b ≡ true)
 or-cases true b h = inl refl
 or-cases false b h = inr h
+
+-- The whole fails with a test that it needs.
+pub fails : (part whole : Bool) → (whole ≡ true → part ≡ true) → part ≡ false → false ≡ whole
+fails part whole f e = sym (not-so whole (λ t. clash part (f t) e))

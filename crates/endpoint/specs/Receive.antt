@@ -9,7 +9,7 @@ use Rattle.common.specs.Every.{every}
 use Rattle.wire.specs.declared.Packet.{Packet}
 use Rattle.wire.specs.declared.Reading.{Reading}
 use Rattle.wire.specs.declared.Reading.the-variants.{Refused, Dummy, Read}
-use Rattle.wire.specs.Read.{readOf}
+use Rattle.wire.specs.Read.{numberOf, readOf}
 use Rattle.receiver.specs.declared.Receiver.{Receiver}
 use Rattle.receiver.specs.Record as receiving
 use Rattle.receiver.specs.Consistent as receiverTests
@@ -55,8 +55,8 @@ unfoldable pub packetOf : ℕ → Halves → List ℕ → Packet → Halves
 packetOf w e d p = cond (eqb (packetAnswer w e d p) 0) (packetTold w e d p) e
 
 unfoldable pub readAnswer : ℕ → Halves → List ℕ → Reading → ℕ
-readAnswer w e d (Refused n) = n
-readAnswer w e d Dummy = 0
+readAnswer w e d (Refused n) = numberOf (Refused n)
+readAnswer w e d Dummy = numberOf Dummy
 readAnswer w e d (Read p) = packetAnswer w e d p
 
 unfoldable pub readInto : ℕ → Halves → List ℕ → Reading → Halves

@@ -2,12 +2,13 @@
 -- sequence of calls leaves such an endpoint. A refused call changes nothing, so nothing is asked of the calls or their answers.
 use Prim.Native.Nat.{ℕ, _*_, _≤_, _<_}
 use mathlib.Core.List.{List, [], _∷_}
-use mathlib.Core.Path.{_≡_}
+use mathlib.Core.Path.{_≡_, sym, subst}
 use lib.ListN.{length}
-use Rattle.endpoint.specs.Open.{openAnswer}
+use Rattle.endpoint.specs.declared.Opened.{Opened}
+use Rattle.endpoint.specs.Open.{openAnswer, openedOf}
 use Rattle.endpoint.specs.Calls.{Endpoint, Call, callOf, callsOf}
 use Rattle.endpoint.specs.Sound.{Sound}
-use Rattle.endpoint.specs.Fresh.{freshOf}
+use Rattle.endpoint.specs.Fresh.{endpointOf, freshOf, opened-fresh}
 use Rattle.endpoint.specs.Keeps.{call-sound, opened, fresh-halves}
 
 module _ (w cap : ℕ) (lw : 0 < w) (uw : w ≤ cap) where
@@ -24,8 +25,12 @@ module _ (w cap : ℕ) (lw : 0 < w) (uw : w ≤ cap) where
   fresh-sound firstdata firstchannel timeout store sent a ls lt =
       fresh-halves w cap lw uw firstdata firstchannel timeout (opened firstdata firstchannel timeout a) store sent ls lt
 
-  -- So every endpoint that opening and calls make is sound.
+  -- So every endpoint that an accepted opening and calls make is sound.
   pub reached-sound : (firstdata firstchannel timeout : ℕ) (store sent : List ℕ) → openAnswer firstdata firstchannel timeout ≡ 0
-      → length store ≡ w * 1225 → length sent ≡ w * 1225 → (cs : List Call) → Sound w cap (callsOf w cap (freshOf cap firstdata firstchannel timeout store sent) cs)
+      → length store ≡ w * 1225 → length sent ≡ w * 1225 → (cs : List Call)
+      → Sound w cap (callsOf w cap (endpointOf (openedOf cap firstdata firstchannel timeout) store sent) cs)
   reached-sound firstdata firstchannel timeout store sent a ls lt cs =
-      calls-keep (freshOf cap firstdata firstchannel timeout store sent) (fresh-sound firstdata firstchannel timeout store sent a ls lt) cs
+      calls-keep (endpointOf (openedOf cap firstdata firstchannel timeout) store sent)
+      (subst (λ (o : Opened). Sound w cap (endpointOf o store sent)) (sym (opened-fresh cap firstdata firstchannel timeout a))
+      (fresh-sound firstdata firstchannel timeout store sent a ls lt))
+      cs

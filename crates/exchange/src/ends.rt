@@ -1,4 +1,4 @@
-// One end: an endpoint with its stores' records, and what it has counted.
+// One end: the two records of an endpoint, and what it has counted.
 use crate::blocks;
 use crate::channel;
 use common::Written;

@@ -18,7 +18,7 @@ use Rattle.wire.specs.declared.Packet.{Packet}
 use Rattle.wire.specs.declared.Reading.{Reading}
 use Rattle.wire.specs.declared.Reading.the-variants.{Refused, Dummy, Read}
 use Rattle.wire.specs.Flags.{ackIn, dataIn, vectorIn, aoaIn, overheadIn, delayIn}
-use Rattle.wire.specs.Read.{readOf}
+use Rattle.wire.specs.Read.{numberOf, readOf}
 
 -- a line: key, `=`, value, newline
 abbrev pub line : String → List ℕ → List ℕ
@@ -64,8 +64,8 @@ packetLines p =
     ∷ [])
 
 unfoldable pub linesFor : Reading → List ℕ
-linesFor (Refused n) = line "answer" (decimalOf n)
-linesFor Dummy = line "answer" (decimalOf 0) ++ line "type" (decimalOf 8)
+linesFor (Refused n) = line "answer" (decimalOf (numberOf (Refused n)))
+linesFor Dummy = line "answer" (decimalOf (numberOf Dummy)) ++ line "type" (decimalOf 8)
 linesFor (Read p) = packetLines p
 
 -- the listing of a datagram

@@ -1,5 +1,5 @@
 // The two kinds of number, and the age of a tick.
-// A data number counts transmissions and a channel number counts blocks. Each is a type of its own, so that neither is
+// "A data number counts transmissions and a channel number counts blocks": each is a type of its own, so that neither is
 // widened against the other's reference; both widen by the one rule.
 ghost use mathlib.Core.Path.{_≡_};
 ghost use Prim.Native.Nat.{_≤_};

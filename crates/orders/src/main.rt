@@ -88,7 +88,7 @@ fn all(r: Run, store: &mut [u8], factor: u32, start: u32, every: u32) -> Run {
     while i < 32 {
         q = comes(q, store, i, k);
         k = packets::next(k, factor);
-        if packets::divides(every, i) {
+        if packets::ends(every, i) {
             q = takes(q, store);
         }
         i += 1;

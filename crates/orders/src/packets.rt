@@ -16,8 +16,8 @@ pub fn next(k: u32, factor: u32) -> u32 {
     ((k as u64 + factor as u64) % 32) as u32
 }
 
-// Is i a multiple?
-pub fn divides(every: u32, i: u32) -> bool {
+// Is i + 1 a multiple of every?
+pub fn ends(every: u32, i: u32) -> bool {
     if every == 0 {
         return false;
     }

@@ -3,13 +3,14 @@
 use Prim.Native.Nat.{ℕ, _+_, _-_, _≤_, _<_}
 use mathlib.Core.Bool.{Bool, true, false, cond}
 use mathlib.Core.List.{List, []}
-use mathlib.Core.Logic.{⊎-elim}
+use mathlib.Core.Logic.{_⊎_, inl, inr, ⊎-elim}
 use mathlib.Core.Path.{_≡_, refl, sym, _∙_, ap}
 use native.Mathlib.Omega.{arith}
 use lib.ListN.{length, getD}
 use lib.Dec.{leb, ltb}
-use borrow.Author.Tests.{lt-leb, le-leb, le-ltb, lt-ltb}
-use Rattle.common.specs.Facts.{lt-or-ge}
+use borrow.Author.Tests.{lt-leb, le-leb, le-ltb, lt-ltb, not-false}
+use Rattle.common.specs.Facts.{lt-or-ge, bool}
+use Rattle.common.specs.Order.{first-pass}
 use Rattle.vector.specs.Says.{names}
 use Rattle.vector.specs.Rule.{vectorOf}
 use Rattle.vector.specs.ReadsBack.{names-exactly}
@@ -18,7 +19,8 @@ use Rattle.wire.specs.Same.{Says}
 use Rattle.wire.specs.WrittenReadsBack.{written-reads-back}
 use Rattle.receiver.specs.declared.Receiver.{Receiver}
 use Rattle.receiver.specs.Record.{isMarked, markAt}
-use Rattle.receiver.specs.Acknowledge.{statesFrom, statesOf, allThere, ackValues, vectorValues, acknowledgementOf}
+use Rattle.receiver.specs.Acknowledge.{statesFrom, statesOf, allThere, ackValues, vectorValues, acknowledgementOf, acknowledgeAnswer}
+use Rattle.receiver.specs.Facts.{consistent-facts}
 use Rattle.receiver.specs.AcknowledgeLaws.{state-at, state-past, ack-accepted, vector-accepted}
 
 -- Where all is there, the ACK for base − 1, with the caller's stamp and gap.
@@ -55,3 +57,15 @@ vector-names w r n =
     ∙ sym (ap (λ (b : Bool). cond b (isMarked (markAt w r n)) false) (le-ltb n (r .end .0) past)))
     (lt-or-ge n (r .end .0))))
     (lt-or-ge n (r .base .0))
+
+-- So with every acknowledgement that the call accepts to write.
+pub acknowledgement-reads-back : (w cap : ℕ) (r : Receiver) (stamp gap room : ℕ) → w ≤ 880 → acknowledgeAnswer w cap r stamp gap room ≡ 0
+    → ((allThere r ≡ true) × Says (ackValues r stamp gap) [] [] [] (acknowledgementOf w r stamp gap))
+    ⊎ ((allThere r ≡ false) × Says (vectorValues w r) [] (vectorOf (statesOf w r)) [] (acknowledgementOf w r stamp gap))
+unfolding acknowledgeAnswer
+acknowledgement-reads-back w cap r stamp gap room u h =
+    let consistent = not-false _ (first-pass _ _ _ (omega arith) (sym h) .0) in
+    ⊎-elim
+    (λ t. inl (t, ack-reads-back w r stamp gap t))
+    (λ t. inr (t, vector-reads-back w r stamp gap t (consistent-facts w cap r consistent .endNear) u))
+    (bool (allThere r))

@@ -12,7 +12,7 @@ use Rattle.wire.specs.declared.Packet.{Packet as Taken}
 use Rattle.wire.specs.declared.Reading.{Reading}
 use Rattle.wire.specs.declared.Reading.the-variants.{Refused, Dummy, Read}
 use Rattle.wire.specs.Flags.{dataIn, aoaIn}
-use Rattle.wire.specs.Read.{readOf}
+use Rattle.wire.specs.Read.{numberOf, readOf}
 use Rattle.wire.specs.Same.{bodyIn}
 use Rattle.receiver.specs.declared.Receiver.{Receiver}
 use Rattle.receiver.specs.Record.{State}
@@ -71,8 +71,8 @@ valuesOf w s d p = stateFor w s (arrivalFrom (s .receiver) (p .values) (bodyIn d
 
 -- "Type 8 is a dummy: accepted, .. nothing changed."
 unfoldable pub readAnswer : ℕ → Receiver → List ℕ → Reading → ℕ
-readAnswer w r d (Refused n) = n
-readAnswer w r d Dummy = 0
+readAnswer w r d (Refused n) = numberOf (Refused n)
+readAnswer w r d Dummy = numberOf Dummy
 readAnswer w r d (Read p) = valuesAnswer w r d p
 
 unfoldable pub readInto : ℕ → State → List ℕ → Reading → State

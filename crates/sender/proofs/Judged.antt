@@ -5,12 +5,12 @@ use mathlib.Core.List.{List}
 use mathlib.Core.Path.{_≡_, sym, _∙_, subst}
 use lib.ListN.{length, getD}
 use Rattle.common.specs.Every.{allBelow}
-use Rattle.common.specs.Facts.{clash, not-so}
+use Rattle.common.specs.Facts.{clash, not-so, fails}
 use Rattle.sender.specs.declared.Sender.{Sender}
 use Rattle.sender.specs.Record.{isPending, isInFlight, isAcknowledged, numberPasses, numberAt, blockAt}
 use Rattle.sender.specs.Bounds.{rangeOf, timeoutOf}
 use Rattle.sender.specs.Consistent.{numberFits, blockFits, numberOk, blockOk, consistentOf}
-use Rattle.sender.proofs.Tests.{fails, all-fails}
+use Rattle.common.specs.EveryLaws.{all-fails}
 use Rattle.sender.proofs.Passing.{Passes, Range, consistent-passes, passes-consistent}
 use Rattle.sender.proofs.Marks.{Marked, mark-twice, number-judged, block-judged}
 
@@ -30,10 +30,10 @@ pub bad-block-low : (s : Sender) → isAcknowledged (blockAt 32 s (s .channellow
 bad-block-low s t = sym (not-so _ (λ h. clash _ t (consistent-passes s h .blockStands)))
 
 pub bad-number : (s : Sender) (i : ℕ) → i < 32 → numberOk 32 s i ≡ false → false ≡ consistentOf 32 32 s
-bad-number s i l t = fails _ _ (λ h. consistent-passes s h .numbers) (all-fails (numberOk 32 s) 32 i l t)
+bad-number s i l t = fails _ _ (λ h. consistent-passes s h .numbers) (sym (all-fails (numberOk 32 s) 32 i l t))
 
 pub bad-blocks : (s : Sender) → allBelow (blockOk 32 s) 32 ≡ false → false ≡ consistentOf 32 32 s
 bad-blocks s t = fails _ _ (λ h. consistent-passes s h .blocks) t
 
 pub bad-block : (s : Sender) (j : ℕ) → j < 32 → blockOk 32 s j ≡ false → false ≡ consistentOf 32 32 s
-bad-block s j l t = bad-blocks s (all-fails (blockOk 32 s) 32 j l t)
+bad-block s j l t = bad-blocks s (sym (all-fails (blockOk 32 s) 32 j l t))

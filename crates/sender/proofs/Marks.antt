@@ -18,7 +18,8 @@ use Rattle.sender.specs.declared.BlockPlace.{BlockPlace}
 use Rattle.sender.specs.declared.Sender.{Sender}
 use Rattle.sender.specs.Record.{isPending, isInFlight, isWaiting, isAcknowledged, numberAt, blockAt}
 use Rattle.sender.specs.Consistent.{zeroNumber, zeroBlock, pendingTests, doneTests, numberFits, blockFits, carries, oneCarrier, numberOk, blockOk}
-use Rattle.sender.proofs.Tests.{every-at, all-fails, one, count-none, count-next, count-grows}
+use Rattle.common.specs.EveryLaws.{every-at, all-fails}
+use Rattle.common.specs.CountLaws.{one, count-none, count-next, count-grows}
 use Rattle.sender.proofs.Passing.{Range}
 
 -- what a place that fits tells of a pending number
@@ -178,9 +179,9 @@ mark-twice s marks i two li r ok h et t = ⊎-elim twice (λ (p : isPending (nth
         let top : i + 1 + (32 - (i + 1)) ≡ 32 = omega arith in
         let g2 : countBelow (carries 32 s ch) (i + 1) ≤ countBelow (carries 32 s ch) 32 = subst (λ (z : ℕ). countBelow (carries 32 s ch) (i + 1) ≤ countBelow (carries 32 s ch) z) top g in
         let two : eqb (countBelow (carries 32 s ch) 32) 1 ≡ false = ne-eqb _ _ (λ (q : countBelow (carries 32 s ch) 32 ≡ 1). omega arith) in
-        all-fails (blockOk 32 s) 32 (ch - s .channellow .0) (omega (arith, f .most, f .least, r .room))
+        sym (all-fails (blockOk 32 s) 32 (ch - s .channellow .0) (omega (arith, f .most, f .least, r .room))
         (subst (λ (c : ℕ). blockFits (blockAt 32 s c) (eqb (countBelow (carries 32 s c) 32) 1) c (s .channelnext .0) ≡ false) (sym back)
-        (single-fails (blockAt 32 s ch) _ ch (s .channelnext .0) (f .most) (f .flies) two))
+        (single-fails (blockAt 32 s ch) _ ch (s .channelnext .0) (f .most) (f .flies) two)))
 
 one-eqb : (m : Bool) (k : ℕ) → one m ≡ k → m ≡ eqb k 1
 one-eqb true k e = sym (eq-eqb k 1 (sym e))

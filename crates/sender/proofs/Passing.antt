@@ -8,12 +8,11 @@ use lib.ListN.{length, getD}
 use lib.Dec.{leb, eqb}
 use borrow.Author.Tests.{eq-eqb, lt-leb, leb-true, eqb-true}
 use Rattle.common.specs.Every.{every, allBelow, implies}
-use Rattle.common.specs.EveryLaws.{all-every, all-from, imply}
+use Rattle.common.specs.EveryLaws.{all-every, all-from, imply, every-at}
 use Rattle.common.specs.Facts.{clash, not-so}
 use Rattle.sender.specs.declared.Sender.{Sender}
 use Rattle.sender.specs.Record.{numberPasses, isAcknowledged, numberAt, blockAt}
 use Rattle.sender.specs.Bounds.{rangeOf, timeoutOf}
-use Rattle.sender.proofs.Tests.{every-at}
 use Rattle.sender.specs.Consistent.{numberOk, blockOk, spareNumber, spareBlock, consistencyTests, consistentOf, soundOf}
 
 -- the tests of a range, and of the timeout

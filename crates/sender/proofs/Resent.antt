@@ -14,7 +14,7 @@ use Rattle.common.specs.declared.Written.the-variants.{Refused, Wrote}
 use Rattle.common.specs.Answer.{writtenOf, leftOf, written-refused, left-refused}
 use Rattle.common.specs.Choice.{unless}
 use Rattle.common.specs.Every.{every}
-use Rattle.common.specs.EveryLaws.{all-at}
+use Rattle.common.specs.EveryLaws.{all-at, every-at}
 use Rattle.common.specs.Facts.{bool}
 use Rattle.common.specs.Order.{first-here, first-skip}
 use Rattle.sender.specs.declared.BlockPlace.{BlockPlace}
@@ -25,7 +25,6 @@ use Rattle.sender.specs.Record.{State, isWaiting, isAcknowledged, isInFl
 use Rattle.sender.specs.Consistent.{consistentOf, soundOf, blockFits, blockOk, oneCarrier, zeroBlock}
 use Rattle.sender.specs.Send.{dataBytes, roomAnswer, sentOf, waitingFrom, lowestWaiting, isNone, resendDatagram, resendAnswer, resendOf}
 use Rattle.sender.specs.Lowest.{lowestOf}
-use Rattle.sender.proofs.Tests.{every-at}
 use Rattle.sender.proofs.Passing.{consistent-passes, unsized, sound-as}
 use Rattle.sender.proofs.Sent.{sound-facts, refused-is, wrote-is}
 

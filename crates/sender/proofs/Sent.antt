@@ -17,7 +17,7 @@ use Rattle.sender.specs.declared.Sender.{Sender}
 use Rattle.sender.specs.Record.{highest, State}
 use Rattle.sender.specs.Consistent.{consistentOf, soundOf}
 use Rattle.sender.specs.Send.{roomAnswer, sentOf, newAnswer, newDatagram, newOf}
-use Rattle.sender.proofs.Tests.{every-at}
+use Rattle.common.specs.EveryLaws.{every-at}
 use Rattle.sender.proofs.Passing.{Range, consistent-passes, range-facts, unsized, sound-as}
 
 -- what a sound record tells

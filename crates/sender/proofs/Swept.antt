@@ -23,7 +23,7 @@ use Rattle.sender.specs.Turn.{turnedOf}
 use Rattle.sender.specs.Chosen.{chosenBy}
 use Rattle.sender.specs.Sweep.{losing, above, higherReceived, losesAt, becomesLost, sweepAnswer, sweepCount, sweepOf}
 use Rattle.sender.specs.FlagsLost.{FlagsLost}
-use Rattle.sender.proofs.Tests.{one, count-none, count-next}
+use Rattle.common.specs.CountLaws.{one, count-none, count-next}
 use Rattle.sender.proofs.Turned.{turned-ext}
 use Rattle.sender.proofs.Told.{chosen-flag}
 

@@ -13,7 +13,7 @@ use Rattle.wire.specs.declared.Packet.{Packet}
 use Rattle.wire.specs.declared.Reading.{Reading}
 use Rattle.wire.specs.declared.Reading.the-variants.{Refused, Dummy, Read}
 use Rattle.wire.specs.Flags.{ackIn, vectorIn}
-use Rattle.wire.specs.Read.{readOf}
+use Rattle.wire.specs.Read.{numberOf, readOf}
 use Rattle.wire.specs.Same.{codedIn}
 use Rattle.sender.specs.declared.Sender.{Sender}
 use Rattle.sender.specs.Record.{received, acknowledged}
@@ -78,8 +78,8 @@ toldBy s d p =
 
 -- one datagram into the sender's half: 13, then reading, then 8; a dummy changes nothing
 unfoldable pub readAnswer : Sender → List ℕ → Reading → ℕ
-readAnswer s d (Refused n) = n
-readAnswer s d Dummy = 0
+readAnswer s d (Refused n) = numberOf (Refused n)
+readAnswer s d Dummy = numberOf Dummy
 readAnswer s d (Read p) = toldAnswer s (toldBy s d p)
 
 unfoldable pub readInto : ℕ → Sender → List ℕ → Reading → Sender

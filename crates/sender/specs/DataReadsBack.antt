@@ -1,9 +1,10 @@
 -- What a new block or a resend writes reads back as exactly its values: the AckOfAcks, the data number, the channel number and the block, and nothing else.
-use Prim.Native.Nat.{ℕ, _+_, _≤_}
+use Prim.Native.Nat.{ℕ, _+_, _≤_, _<_}
 use mathlib.Core.List.{List, [], _++_}
+use mathlib.Core.Option.{some}
 use mathlib.Core.Path.{_≡_, refl, _∙_}
 use native.Mathlib.Omega.{arith}
-use lib.ListN.{length, length-append}
+use lib.ListN.{length, drop, length-append, length-take}
 use borrow.Author.Tests.{le-ltb}
 use Rattle.common.specs.Order.{first}
 use Rattle.wire.specs.Frame.{prefixFor}
@@ -12,7 +13,10 @@ use Rattle.wire.specs.Write.{packetBytes, datagramOf, writeAnswer}
 use Rattle.wire.specs.Same.{Says}
 use Rattle.wire.specs.WrittenReadsBack.{written-reads-back}
 use Rattle.wire.specs.Round.Framing.{framed-length}
-use Rattle.sender.specs.Send.{dataValues, dataBytes, roomAnswer}
+use Rattle.sender.specs.Record.{State, blockAt, storePlace, contents}
+use Rattle.sender.specs.Send.{dataValues, dataBytes, roomAnswer, newAnswer, newDatagram, lowestWaiting, resendAnswer, resendDatagram}
+use Rattle.sender.specs.Facts.{consistent-facts}
+use Rattle.sender.specs.SendReady.{sound-facts, new-accepted, resend-accepted, resend-ready}
 
 pub data-length : (low next c : ℕ) (b : List ℕ) → length (dataBytes low next c b) ≡ 9 + length b
 unfolding dataBytes datagramOf packetBytes
@@ -36,3 +40,21 @@ data-reads-back low next c b h =
     let fits = le-ltb (length (datagramOf (dataValues low next c) [] [] b)) (length (datagramOf (dataValues low next c) [] [] b)) (omega arith) in
     written-reads-back (dataValues low next c) [] [] b (length (datagramOf (dataValues low next c) [] [] b))
     (rw (data-answer low next c b (length (datagramOf (dataValues low next c) [] [] b)) h, fits) refl)
+
+-- So with every new block that is accepted.
+pub new-reads-back : (w cap : ℕ) (s : State) (block : List ℕ) (room : ℕ) → newAnswer w cap s block room ≡ 0
+    → Says (dataValues (s .sender .low .0) (s .sender .next .0) (s .sender .channelnext .0)) [] [] block (newDatagram s block)
+unfolding newDatagram
+new-reads-back w cap s block room h =
+    data-reads-back (s .sender .low .0) (s .sender .next .0) (s .sender .channelnext .0) block (new-accepted w cap s block room h .short)
+
+-- And with every resend that is accepted: it carries the waiting block of lowest channel number, as the store has it, under the next data number.
+pub resend-reads-back : (w cap : ℕ) → 0 < w → w ≤ cap → (s : State) (room c : ℕ) → resendAnswer w cap s room ≡ 0 → lowestWaiting w (s .sender) ≡ some c
+    → Says (dataValues (s .sender .low .0) (s .sender .next .0) c) [] [] (contents w s c) (resendDatagram w s)
+unfolding resendDatagram contents
+resend-reads-back w cap lw uw s room c h e =
+    let k = resend-accepted w cap s room h in
+    let f = consistent-facts w cap (s .sender) lw uw (sound-facts w cap (s .sender) (length (s .store)) (k .sound) .0) in
+    let n = resend-ready w cap s c f k e .short in
+    let t = length-take (blockAt w (s .sender) c .length) (drop (storePlace w c) (s .store)) in
+    rw e (data-reads-back (s .sender .low .0) (s .sender .next .0) c (contents w s c) (omega arith))

@@ -210,7 +210,7 @@ pub fn judge(s: Sender, d: &[u8], p: Packet) -> Judged
     }
 }
 
-// One datagram into the sender's record alone: 13, then reading, then 8.
+// Takes one datagram into the sender's half alone: what it acknowledges. Refused with 13, then as reading it, then with 8.
 pub fn acknowledge(s: Sender, d: &[u8]) -> Acknowledged
     ensures answer { λ r. ⌜ r .answer ≡ acknowledgeAnswer 32 32 s (now (d .entry)) ⌝ }
     ensures record { λ r. ⌜ r .sender ≡ acknowledgeOf 32 32 s (now (d .entry)) ⌝ }

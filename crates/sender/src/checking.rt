@@ -3,7 +3,7 @@ ghost use mathlib.Core.Path.{_≡_};
 ghost use mathlib.Core.Bool.{true, false, cond};
 ghost use lib.Dec.{eqb};
 ghost use Rattle.sender.specs.Bounds.{rangeOf, timeoutOf};
-ghost use Rattle.sender.specs.Consistent.{zeroNumber, zeroBlock, numberFits, blockFits, consistentOf, soundOf};
+ghost use Rattle.sender.specs.Consistent.{zeroNumber, zeroBlock, numberFits, blockFits, consistentOf};
 use crate::BlockPlace;
 use crate::NumberPlace;
 use crate::Sender;
@@ -30,7 +30,7 @@ fn range_fits(first: u64, low: u64, next: u64) -> bool
 }
 
 // Is the loss timeout within opening's range?
-pub fn timeout_fits(timeout: u32) -> bool
+fn timeout_fits(timeout: u32) -> bool
     ensures { λ r. ⌜ r ≡ timeoutOf timeout ⌝ }
 {
     if timeout < 300 {
@@ -205,14 +205,4 @@ pub fn consistent(s: Sender) -> bool
         j += 1;
     }
     true
-}
-
-// Is the record consistent and the store of the right size?
-pub fn sound(s: Sender, size: usize) -> bool
-    ensures { λ r. ⌜ r ≡ soundOf 32 32 s size ⌝ }
-{
-    if size != crate::STORE {
-        return false;
-    }
-    consistent(s)
 }

@@ -1,4 +1,4 @@
-// Numbers as text: what the listing and the traces write.
+// Numbers as text.
 ghost use Prim.Native.Nat.{_+_, _≤_};
 ghost use lib.ListN.{length};
 ghost use Rattle.common.specs.Laid.{Laid};

@@ -20,7 +20,7 @@ unfoldable pub bitsOf : ℕ → ℕ → List Bool
 bitsOf zero m = []
 bitsOf (suc k) m = eqb (m % 2) 1 ∷ bitsOf k (m / 2)
 
--- the states that a byte gives, in the order of the numbers: "bit i for the i-th, 1 received"; "Length 0 .. name[s] nothing."
+-- the states that a byte gives, in the order of the numbers: "bit i for the i-th, 1 received"; "Length 0 and size 0 name nothing."
 unfoldable pub statesIn : Saying → List Bool
 statesIn (Map m) = bitsOf 7 m
 statesIn (Run s n) = replicate n s

@@ -44,7 +44,7 @@ endOf p = length p - droppedBy (byteAt p 0)
 unfoldable pub framed : ℕ → List ℕ → List ℕ
 framed prefix packet = swapped (prefix ∷ packet)
 
--- "type 0"; "A packet under 7 bytes is padded with zeros to 7 and S is its length; otherwise S is 0."
+-- "type 0; a dummy is not written"; "A packet under 7 bytes is padded with zeros to 7 and S is its length; otherwise S is 0."
 unfoldable pub prefixFor : List ℕ → ℕ
 prefixFor packet = cond (ltb (length packet) 7) (32 * length packet) 0
 

@@ -4,7 +4,7 @@
 pub mod bits;
 pub mod reader;
 
-// The longest and the shortest datagram, and where the packet's header stands behind the prefix.
+// The longest and the shortest datagram.
 pub const LONGEST: usize = 1232;
 
 pub const SHORTEST: usize = 8;

@@ -3,7 +3,7 @@ use mathlib.Core.Path.{_∙_, refl}
 use borrow.Author.Tests.{le-leb, lt-leb, eq-eqb, ne-eqb}
 use Rattle.common.specs.Choice.{when, unless}
 use Rattle.sender.specs.Consistent.{blockFits}
-use Rattle.sender.proofs.Tests.{every-here, every-skip, every-last}
+use Rattle.common.specs.EveryLaws.{every-fails, every-skip, every-last}
 use borrow.Author.Needs.{needs}
 use Rattle.sender.proofs.checking.block_fits.Statement.{statement}
 use Rattle.sender.proofs.checking.block_fits.Tie as tie
@@ -20,7 +20,7 @@ cast-if2 c = search needs
 
 returns-2 : tie.Need-returns-2
 unfolding blockFits
-returns-2 c = unless _ _ _ _ (lt-leb _ _ (c .before .before .if1 .left)) (every-here _ _ (lt-leb _ _ (c .if2 .taken)))
+returns-2 c = unless _ _ _ _ (lt-leb _ _ (c .before .before .if1 .left)) (every-fails _ 0 (lt-leb _ _ (c .if2 .taken)))
 
 returns-3 : tie.Need-returns-3
 unfolding blockFits

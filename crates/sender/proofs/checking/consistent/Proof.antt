@@ -9,7 +9,7 @@ use borrow.Author.Needs.{needs}
 use borrow.Author.Tests.{not-true, not-false, eq-eqb, ne-eqb}
 use Rattle.common.specs.Every.{allBelow}
 use Rattle.sender.specs.Consistent.{numberOk, blockOk}
-use Rattle.sender.proofs.Tests.{all-none, all-more}
+use Rattle.common.specs.EveryLaws.{all-none, all-more}
 use Rattle.sender.proofs.Passing.{range-facts, passes-consistent}
 use Rattle.sender.proofs.Marks.{Marked, mark-none, mark-next, mark-twice, number-judged, block-judged}
 use Rattle.sender.proofs.Judged.{bad-range, bad-channels, bad-time, bad-low, bad-block-low, bad-number, bad-blocks, bad-block}

@@ -3,7 +3,7 @@ use mathlib.Core.Path.{sym, _∙_}
 use borrow.Author.Tests.{le-leb, lt-leb, lt-ltb, le-ltb, eq-eqb, ne-eqb, not-true, not-false}
 use Rattle.common.specs.Choice.{when, unless}
 use Rattle.sender.specs.Consistent.{numberFits}
-use Rattle.sender.proofs.Tests.{every-here, every-skip, every-last}
+use Rattle.common.specs.EveryLaws.{every-fails, every-skip, every-last}
 use borrow.Author.Needs.{needs}
 use Rattle.sender.proofs.checking.number_fits.Statement.{statement}
 use Rattle.sender.proofs.checking.number_fits.Tie as tie
@@ -17,11 +17,11 @@ returns c = when _ _ _ _ (le-leb _ _ (c .before .if1 .taken)) (c .zero-number .e
 
 returns-2 : tie.Need-returns-2
 unfolding numberFits
-returns-2 c = unless _ _ _ _ (lt-leb _ _ (c .before .before .before .before .if1 .left)) (when _ _ _ _ (eq-eqb _ _ (c .before .before .if2 .taken)) (every-here _ _ (lt-leb _ _ (c .if3 .taken))))
+returns-2 c = unless _ _ _ _ (lt-leb _ _ (c .before .before .before .before .if1 .left)) (when _ _ _ _ (eq-eqb _ _ (c .before .before .if2 .taken)) (every-fails _ 0 (lt-leb _ _ (c .if3 .taken))))
 
 returns-3 : tie.Need-returns-3
 unfolding numberFits
-returns-3 c = unless _ _ _ _ (lt-leb _ _ (c .before .before .before .before .before .before .if1 .left)) (when _ _ _ _ (eq-eqb _ _ (c .before .before .before .before .if2 .taken)) (every-here _ _ (le-ltb _ _ (c .if4 .taken)) ∙ every-skip _ _ (le-leb _ _ (c .before .before .if3 .left))))
+returns-3 c = unless _ _ _ _ (lt-leb _ _ (c .before .before .before .before .before .before .if1 .left)) (when _ _ _ _ (eq-eqb _ _ (c .before .before .before .before .if2 .taken)) (every-fails _ 0 (le-ltb _ _ (c .if4 .taken)) ∙ every-skip _ _ (le-leb _ _ (c .before .before .if3 .left))))
 
 returns-4 : tie.Need-returns-4
 unfolding numberFits
@@ -32,11 +32,11 @@ passes-requires c κs = search needs
 
 returns-5 : tie.Need-returns-5
 unfolding numberFits
-returns-5 c = unless _ _ _ _ (lt-leb _ _ (c .before .before .before .before .if1 .left)) (unless _ _ _ _ (ne-eqb _ _ (c .before .before .if2 .left)) (every-here _ _ (sym (c .before .passes .ensures) ∙ not-true _ (c .if5 .taken))))
+returns-5 c = unless _ _ _ _ (lt-leb _ _ (c .before .before .before .before .if1 .left)) (unless _ _ _ _ (ne-eqb _ _ (c .before .before .if2 .left)) (every-fails _ 0 (sym (c .before .passes .ensures) ∙ not-true _ (c .if5 .taken))))
 
 returns-6 : tie.Need-returns-6
 unfolding numberFits
-returns-6 c = unless _ _ _ _ (lt-leb _ _ (c .before .before .before .before .before .before .if1 .left)) (unless _ _ _ _ (ne-eqb _ _ (c .before .before .before .before .if2 .left)) (every-here _ _ (lt-leb _ _ (c .if6 .taken)) ∙ every-skip _ _ (sym (c .before .before .before .passes .ensures) ∙ not-false _ (c .before .before .if5 .left))))
+returns-6 c = unless _ _ _ _ (lt-leb _ _ (c .before .before .before .before .before .before .if1 .left)) (unless _ _ _ _ (ne-eqb _ _ (c .before .before .before .before .if2 .left)) (every-fails _ 0 (lt-leb _ _ (c .if6 .taken)) ∙ every-skip _ _ (sym (c .before .before .before .passes .ensures) ∙ not-false _ (c .before .before .if5 .left))))
 
 returns-7 : tie.Need-returns-7
 unfolding numberFits

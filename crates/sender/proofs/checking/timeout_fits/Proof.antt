@@ -2,13 +2,13 @@
 use mathlib.Core.Path.{_∙_}
 use borrow.Author.Tests.{le-leb, lt-leb}
 use Rattle.sender.specs.Bounds.{timeoutOf}
-use Rattle.sender.proofs.Tests.{every-here, every-skip, every-last}
+use Rattle.common.specs.EveryLaws.{every-fails, every-skip, every-last}
 use Rattle.sender.proofs.checking.timeout_fits.Statement.{statement}
 use Rattle.sender.proofs.checking.timeout_fits.Tie as tie
 
 returns : tie.Need-returns
 unfolding timeoutOf
-returns c = every-here _ _ (lt-leb _ _ (c .if1 .taken))
+returns c = every-fails _ 0 (lt-leb _ _ (c .if1 .taken))
 
 returns-2 : tie.Need-returns-2
 unfolding timeoutOf

@@ -2,13 +2,13 @@
 use mathlib.Core.Path.{_∙_}
 use borrow.Author.Tests.{eq-eqb, ne-eqb}
 use Rattle.sender.specs.Consistent.{zeroBlock}
-use Rattle.sender.proofs.Tests.{every-here, every-skip, every-last}
+use Rattle.common.specs.EveryLaws.{every-fails, every-skip, every-last}
 use Rattle.sender.proofs.checking.zero_block.Statement.{statement}
 use Rattle.sender.proofs.checking.zero_block.Tie as tie
 
 returns : tie.Need-returns
 unfolding zeroBlock
-returns c = every-here _ _ (ne-eqb _ _ (c .if1 .taken))
+returns c = every-fails _ 0 (ne-eqb _ _ (c .if1 .taken))
 
 returns-2 : tie.Need-returns-2
 unfolding zeroBlock
