@@ -1,7 +1,7 @@
 -- Receiving a datagram into both halves, a law for each way out.
 use Prim.Native.Nat.{ℕ, _≤_}
 use mathlib.Core.Bool.{Bool, true, false, cond}
-use mathlib.Core.List.{List, [], _∷_}
+use mathlib.Core.List.{List}
 use mathlib.Core.Path.{_≡_, refl, sym, _∙_, ap}
 use native.Mathlib.Omega.{arith}
 use lib.ListN.{length}
@@ -29,7 +29,7 @@ use Rattle.sender.specs.Chosen.{chosenBy}
 use Rattle.sender.specs.Turn.{turnedOf}
 use Rattle.sender.specs.Walk.{appliedOf}
 use Rattle.sender.specs.Facts.{consistent-facts}
-use Rattle.endpoint.specs.Receive.{Halves, halves, receiverOf, soundOf, packetAnswer, packetTold, packetOf, readAnswer, readInto, receiveAnswer, receiveOf}
+use Rattle.endpoint.specs.Receive.{Halves, halves, soundOf, packetAnswer, packetOf, readAnswer, readInto, receiveAnswer, receiveOf}
 
 -- an answer, both records and a store that are what receiving answers and leaves
 abbrev pub Gives : Sender → Receiver → List ℕ → List ℕ → ℕ → Sender → Receiver → List ℕ → Type 0

@@ -51,9 +51,10 @@ pub fn sends(p: Pair, sent: &mut [u8]) -> Pair {
     let mut out = [0u8; 64];
     let got = sender::sending::send(p.sender, sent, 0, b"a", &mut out);
     let s = got.sender;
+    let r = p.receiver;
     Pair {
         sender: s,
-        receiver: p.receiver,
+        receiver: r,
     }
 }
 

@@ -1,71 +1,70 @@
 -- Applying what a packet brings, a law for each way out.
-use Prim.Native.Nat.{ℕ, _+_, _*_, _%_, _≤_, _<_, max}
-use mathlib.Core.Bool.{Bool, true, false, not}
+use Prim.Native.Nat.{ℕ, _+_, _%_, _≤_, _<_, max}
+use mathlib.Core.Bool.{Bool, true, false, cond}
 use mathlib.Core.List.{List}
 use mathlib.Core.Path.{_≡_, refl, sym, _∙_, ap}
-use lib.Dec.{eqb}
-use lib.ListN.{length, getD}
-use borrow.Author.Tests.{lt-ltb, le-ltb}
+use lib.ListN.{length, getD, set}
+use lib.Seq.{set-getD}
+use borrow.Author.Tests.{lt-ltb, le-ltb, eq-eqb, ne-eqb}
 use Rattle.common.specs.Put.{putOf}
 use Rattle.wire.specs.declared.Packet.{Packet as Taken}
 use Rattle.wire.specs.Same.{bodyIn}
 use Rattle.window.specs.Window.{Win, lifted, slid}
+use Rattle.receiver.specs.declared.Hold.{Hold}
 use Rattle.receiver.specs.declared.Receiver.{Receiver}
 use Rattle.receiver.specs.declared.marks.Marks.{Marks}
 use Rattle.receiver.specs.declared.packet.Arrived.{Arrived}
 use Rattle.receiver.specs.declared.packet.Arrived.the-variants.{Refused, Nothing, Waiver, Content}
-use Rattle.receiver.specs.Record.{State, state, isMarked, empty, marksOf}
-use Rattle.receiver.specs.Packet.{marked, keeps, receiverAfter, waiverAfter, storeAfter}
+use Rattle.receiver.specs.Record.{State, state, isMarked, empty, holding, marksOf, storePlace}
+use Rattle.receiver.specs.Packet.{Packet, marked, marksAfter, keeps, receiverAfter}
 use Rattle.receiver.specs.Receive.{valuesOf}
-use Rattle.receiver.specs.Marks.{winOf, withMarks, notedOf, withHold}
-use Rattle.receiver.specs.Judge.{judgedOf, packetWith, leftBy}
+use Rattle.receiver.specs.Marks.{winOf}
+use Rattle.receiver.specs.Judge.{keptOf, judgedOf, packetWith, leftBy}
 use Rattle.receiver.specs.Judged.{judged-leaves}
-
--- THE MARKS
-
-pub base-is : (m : Marks) (r : Receiver) → winOf m ≡ marksOf r → m .base ≡ r .base .0
-base-is m r e = ap (λ (x : Win ℕ). x .base) e
-
-module _ (w : ℕ) (r : Receiver) (v : ℕ) (m l : Marks) (em : winOf m ≡ marksOf r) (el : winOf l ≡ lifted 0 w v (winOf m)) where
-  lifted-is : winOf l ≡ lifted 0 w v (marksOf r)
-  lifted-is = el ∙ ap (lifted 0 w v) em
-
-  pub waived-is : (a : Marks) (q : Receiver) → winOf a ≡ slid 0 w isMarked w (winOf l) → q ≡ withMarks r (winOf a) (r .end .0) → q ≡ waiverAfter w r v
-  waived-is a q ea eq = eq ∙ ap (λ (x : Win ℕ). withMarks r x (r .end .0)) (ea ∙ ap (slid 0 w isMarked w) lifted-is)
-
-  pub noted-is : (n end : ℕ) (k a : Marks) (q : Receiver) → winOf k ≡ marked w (winOf l) n → winOf a ≡ slid 0 w isMarked w (winOf k)
-      → end ≡ max (r .end .0) (n + 1) → q ≡ withMarks r (winOf a) end → q ≡ notedOf w r n v
-  unfolding notedOf
-  noted-is n end k a q ek ea ee eq =
-      eq
-      ∙ ap (λ (x : Win ℕ). withMarks r x end) (ea ∙ ap (slid 0 w isMarked w) (ek ∙ ap (λ (x : Win ℕ). marked w x n) lifted-is))
-      ∙ ap (withMarks r (slid 0 w isMarked w (marked w (lifted 0 w v (marksOf r)) n))) ee
 
 -- THE BLOCK
 
-pub keeps-late : (w : ℕ) (r : Receiver) (c : ℕ) → c < r .due .0 → false ≡ keeps w r c
-unfolding keeps
-keeps-late w r c h = rw (lt-ltb c (r .due .0) h) refl
+-- one below due, or held already, is a repeat, and any other is kept
+pub kept-late : (due c : ℕ) (h : Hold) → c < due → keptOf due c h ≡ false
+unfolding keptOf
+kept-late due c h l = rw (lt-ltb c due l) refl
 
-pub keeps-else : (w : ℕ) (r : Receiver) (c at : ℕ) → r .due .0 ≤ c → at ≡ c % w → not (eqb (getD (r .holds) at empty .held) 1) ≡ keeps w r c
-unfolding keeps
-keeps-else w r c at h a = rw (le-ltb c (r .due .0) h, a) refl
+pub kept-held : (due c : ℕ) (h : Hold) → due ≤ c → h .held ≡ 1 → keptOf due c h ≡ false
+unfolding keptOf
+kept-held due c h l e = rw (le-ltb c due l, eq-eqb (h .held) 1 e) refl
 
-module _ (w : ℕ) (r : Receiver) (s : List ℕ) (n c v : ℕ) (b : List ℕ) (q : Receiver) (t : Bool) (eq : q ≡ notedOf w r n v) (et : t ≡ keeps w r c) where
-  pub content-kept : (at k : ℕ) → t ≡ true → at ≡ c % w → k ≡ length b → (x : Receiver) → x ≡ withHold q at k → (left : List ℕ) → left ≡ putOf s (at * 1225) b
-      → (x ≡ receiverAfter w r (packetWith n c v b)) × (left ≡ storeAfter w (state r s) (packetWith n c v b))
-  unfolding notedOf
-  content-kept at k h a e x ex left el =
-      let y : keeps w r c ≡ true = sym et ∙ h in
-      (ex ∙ ap (λ (o : Receiver). withHold o at k) eq ∙ rw (y, a, e) refl, el ∙ rw (y, a) refl)
-
-  pub content-repeat : t ≡ false → (q ≡ receiverAfter w r (packetWith n c v b)) × (s ≡ storeAfter w (state r s) (packetWith n c v b))
-  unfolding notedOf
-  content-repeat h =
-      let y : keeps w r c ≡ false = sym et ∙ h in
-      (eq ∙ rw y refl, rw y refl)
+pub kept-new : (due c : ℕ) (h : Hold) → due ≤ c → (h .held ≡ 1 → ⊥) → keptOf due c h ≡ true
+unfolding keptOf
+kept-new due c h l e = rw (le-ltb c due l, ne-eqb (h .held) 1 e) refl
 
 -- THE WHOLE
+
+-- a record with other marks, another end and other places for blocks
+abbrev changed : Receiver → Win ℕ → ℕ → List Hold → Receiver
+changed r m end holds =
+    record {
+      firstdata = r .firstdata;
+      firstchannel = r .firstchannel;
+      base = record { 0 = m .base };
+      end = record { 0 = end };
+      due = r .due;
+      marks = m .places;
+      holds = holds;
+    }
+
+-- block c, where h stands at its place: it is kept as the record keeps it, and so is its place
+module _ (w : ℕ) (r : Receiver) (c at : ℕ) (h : Hold) (place : at ≡ c % w) (here : h ≡ getD (r .holds) at empty) where
+  kept-is : keptOf (r .due .0) c h ≡ keeps w r c
+  unfolding keptOf keeps
+  kept-is = rw (here, place) refl
+
+  held-is : (k : ℕ) (x : Hold) → x ≡ cond (keptOf (r .due .0) c h) (holding k) h
+      → set (r .holds) at x ≡ cond (keeps w r c) (set (r .holds) (c % w) (holding k)) (r .holds)
+  held-is k x e = go (keeps w r c) (e ∙ ap (λ (t : Bool). cond t (holding k) h) kept-is)
+    where
+      go : (t : Bool) → x ≡ cond t (holding k) h → set (r .holds) at x ≡ cond t (set (r .holds) (c % w) (holding k)) (r .holds)
+      go true q = rw (q, place) refl
+      go false q = rw (q, here) (set-getD (r .holds) at empty)
 
 module _ (w : ℕ) (r : Receiver) (s d : List ℕ) (p : Taken) (a : Arrived) (judged : a ≡ judgedOf w r (p .values)) where
   applied : (x : Arrived) → a ≡ x → leftBy w (state r s) (bodyIn d p) x ≡ valuesOf w (state r s) d p
@@ -86,12 +85,24 @@ module _ (w : ℕ) (r : Receiver) (s d : List ℕ) (p : Taken) (a : Arrived) (ju
   unfolding leftBy
   applied-nothing e = parts r s (applied Nothing e)
 
-  pub applied-waiver : (v : ℕ) (q : Receiver) → a ≡ Waiver v → q ≡ waiverAfter w r v → Left q s
+  pub applied-waiver : (v : ℕ) (m : Marks) → a ≡ Waiver v → winOf m ≡ slid 0 w isMarked w (lifted 0 w v (marksOf r))
+      → Left (changed r (winOf m) (r .end .0) (r .holds)) s
   unfolding leftBy
-  applied-waiver v q e x = parts q s (ap (λ (o : Receiver). state o s) x ∙ applied (Waiver v) e)
+  applied-waiver v m e x =
+      parts (changed r (winOf m) (r .end .0) (r .holds)) s (ap (λ (o : Win ℕ). state (changed r o (r .end .0) (r .holds)) s) x ∙ applied (Waiver v) e)
 
-  pub applied-content : (n c v : ℕ) (q : Receiver) (left : List ℕ) → a ≡ Content n c v
-      → q ≡ receiverAfter w r (packetWith n c v (bodyIn d p)) → left ≡ storeAfter w (state r s) (packetWith n c v (bodyIn d p)) → Left q left
+  pub applied-content : (n c v : ℕ) → a ≡ Content n c v → (m : Marks) → winOf m ≡ slid 0 w isMarked w (marked w (lifted 0 w v (marksOf r)) n)
+      → (end : ℕ) → end ≡ max (r .end .0) (n + 1) → (at : ℕ) → at ≡ c % w → (h : Hold) → h ≡ getD (r .holds) at empty → p .bytes ≡ length (bodyIn d p)
+      → (x : Hold) → x ≡ cond (keptOf (r .due .0) c h) (holding (p .bytes)) h
+      → (left : List ℕ) → left ≡ cond (keptOf (r .due .0) c h) (putOf s (storePlace w c) (bodyIn d p)) s
+      → Left (changed r (winOf m) end (set (r .holds) at x)) left
   unfolding leftBy
-  applied-content n c v q left e x y =
-      parts q left (ap (λ (o : Receiver). state o left) x ∙ ap (state (receiverAfter w r (packetWith n c v (bodyIn d p)))) y ∙ applied (Content n c v) e)
+  applied-content n c v e m noted end raised at place h here long x held left stored =
+      let o : Packet = packetWith n c v (bodyIn d p) in
+      parts (changed r (winOf m) end (set (r .holds) at x)) left
+      (ap (λ (y : Win ℕ). state (changed r y end (set (r .holds) at x)) left) noted
+      ∙ ap (λ (y : ℕ). state (changed r (marksAfter w r o) y (set (r .holds) at x)) left) raised
+      ∙ ap (λ (y : List Hold). state (changed r (marksAfter w r o) (max (r .end .0) (n + 1)) y) left)
+      (held-is w r c at h place here (length (bodyIn d p)) x (held ∙ ap (λ (y : ℕ). cond (keptOf (r .due .0) c h) (holding y) h) long))
+      ∙ ap (state (receiverAfter w r o)) (stored ∙ ap (λ (t : Bool). cond t (putOf s (storePlace w c) (bodyIn d p)) s) (kept-is w r c at h place here))
+      ∙ applied (Content n c v) e)

@@ -11,8 +11,8 @@ use Rattle.receiver.specs.declared.Hold.{Hold}
 use Rattle.receiver.specs.declared.Receiver.{Receiver}
 use Rattle.receiver.specs.Record.{highest, isMarked, empty, markAt}
 use Rattle.receiver.specs.Consistent.{isFlag, markOk, holdOk, spareMark, spareHold, consistencyTests, consistentOf, soundOf}
-use Rattle.receiver.specs.Checking.{boundTests, boundsOk, markFine, holdFine, endStands}
-use Rattle.receiver.proofs.Every.{every-at, every-fails, every-later, every-skip, every-front, every-back, every-last, every-none, every-made, every-one, implies-if, implies-else, all-from, all-at}
+use Rattle.receiver.specs.Checking.{boundTests, boundsOk, markFine, holdFine, soundBy}
+use Rattle.common.specs.EveryLaws.{every-at, every-fails, every-later, every-skip, every-front, every-back, every-last, every-none, every-made, every-one, implies-if, implies-else, all-fails, all-from, all-at}
 
 -- ONE PLACE
 
@@ -59,39 +59,18 @@ pub hold-here : (w : ℕ) (r : Receiver) (i at : ℕ) (b t : Bool) → at ≡ (r
 unfolding holdOk holdFine
 hold-here w r i at b t a e h = rw a at (sym e) ∙ h
 
--- where end lies above base, the number before it is marked
-pub end-marked : (w : ℕ) (r : Receiver) (at : ℕ) → r .base .0 < r .end .0 → at ≡ (r .end .0 - 1) % w
-    → eqb (getD (r .marks) at 0) 1 ≡ endStands w r
-unfolding endStands
-end-marked w r at l a = rw a (implies-if _ _ (lt-ltb (r .base .0) (r .end .0) l))
-
-pub end-low : (w : ℕ) (r : Receiver) → r .end .0 ≤ r .base .0 → true ≡ endStands w r
-unfolding endStands
-end-low w r l = implies-else _ _ (le-ltb (r .base .0) (r .end .0) l)
-
 -- THE WHOLE RECORD
 
-pub record Bounds (base end due : ℕ) : Type 0 where
-  pub baseFits : base ≤ 4294967296
-  pub endFits : end ≤ 4294967296
-  pub dueFits : due ≤ 4294967296
-
-pub bounds-told : (f g base end due : ℕ) (b : Bool) → b ≡ boundsOk f g base end due → b ≡ true → Bounds base end due
-unfolding boundsOk
-bounds-told f g base end due b e h =
-    let t : every (boundTests f g base end due) ≡ true = sym e ∙ h in
-    record {
-      baseFits = leb-true _ _ (every-at (boundTests f g base end due) t 3);
-      endFits = leb-true _ _ (every-at (boundTests f g base end due) t 5);
-      dueFits = leb-true _ _ (every-at (boundTests f g base end due) t 7);
-    }
+-- where end lies above base, the number before it is marked
+abbrev endStands : Receiver → Bool
+endStands r = implies (ltb (r .base .0) (r .end .0)) (isMarked (markAt 32 r (r .end .0 - 1)))
 
 -- the tests that follow the bounds
 abbrev placesOf : Receiver → List Bool
 placesOf r =
     not (isMarked (markAt 32 r (r .base .0)))
     ∷ leb (r .end .0) (r .base .0 + 32)
-    ∷ endStands 32 r
+    ∷ endStands r
     ∷ allBelow (markOk 32 r) 32
     ∷ allBelow (holdOk 32 r) 32
     ∷ allBelow (spareMark 32 r) 32
@@ -107,6 +86,10 @@ spare-holds : (r : Receiver) → allBelow (spareHold 32 r) 32 ≡ true
 unfolding spareHold
 spare-holds r = all-from (spareHold 32 r) 32 (λ i l. sym (implies-else _ _ (lt-leb 32 i l)))
 
+pub record Bounds (r : Receiver) : Type 0 where
+  pub baseFits : r .base .0 ≤ 4294967296
+  pub dueFits : r .due .0 ≤ 4294967296
+
 module _ (r : Receiver) where
   abbrev boundsOf : List Bool
   boundsOf = boundTests (r .firstdata .0) (r .firstchannel .0) (r .base .0) (r .end .0) (r .due .0)
@@ -114,8 +97,14 @@ module _ (r : Receiver) where
   abbrev pub inBounds : Bool
   inBounds = boundsOk (r .firstdata .0) (r .firstchannel .0) (r .base .0) (r .end .0) (r .due .0)
 
+  pub bounds-told : (b : Bool) → b ≡ inBounds → b ≡ true → Bounds r
+  unfolding boundsOk
+  bounds-told b e h =
+      let t : every boundsOf ≡ true = sym e ∙ h in
+      record { baseFits = leb-true _ _ (every-at boundsOf t 3); dueFits = leb-true _ _ (every-at boundsOf t 7) }
+
   pub bounds-fail : (b : Bool) → b ≡ inBounds → b ≡ false → false ≡ consistentOf 32 32 r
-  unfolding consistentOf boundsOk endStands
+  unfolding consistentOf boundsOk
   bounds-fail b e h =
       every-front (eqb (length (r .marks)) 32 ∷ eqb (length (r .holds)) 32 ∷ boundsOf) (placesOf r)
       (every-later _ _ (every-later _ _ (sym h ∙ e)))
@@ -129,42 +118,50 @@ module _ (r : Receiver) where
   unfolding consistentOf
   end-fails h = every-fails (consistencyTests 32 32 r) 11 (lt-leb (r .end .0) (r .base .0 + 32) h)
 
-  pub stands-fails : (b : Bool) → b ≡ endStands 32 r → b ≡ false → false ≡ consistentOf 32 32 r
-  unfolding consistentOf endStands
-  stands-fails b e h = every-fails (consistencyTests 32 32 r) 12 (sym e ∙ h)
-
-  pub marks-fail : (b : Bool) → b ≡ allBelow (markOk 32 r) 32 → b ≡ false → false ≡ consistentOf 32 32 r
+  pub mark-fails : (i : ℕ) → i < 32 → markOk 32 r i ≡ false → false ≡ consistentOf 32 32 r
   unfolding consistentOf
-  marks-fail b e h = every-fails (consistencyTests 32 32 r) 13 (sym e ∙ h)
+  mark-fails i l h = every-fails (consistencyTests 32 32 r) 13 (sym (all-fails (markOk 32 r) 32 i l h))
 
-  pub consistent-made : length (r .marks) ≡ 32 → length (r .holds) ≡ 32 → (bounds : Bool) → bounds ≡ inBounds → bounds ≡ true
-      → (at : ℕ) → at ≡ r .base .0 % 32 → (getD (r .marks) at 0 ≡ 1 → ⊥) → r .end .0 ≤ r .base .0 + 32
-      → (stands : Bool) → stands ≡ endStands 32 r → stands ≡ true → (marks : Bool) → marks ≡ allBelow (markOk 32 r) 32 → marks ≡ true
-      → (b : Bool) → b ≡ allBelow (holdOk 32 r) 32 → b ≡ consistentOf 32 32 r
-  unfolding consistentOf boundsOk endStands
-  consistent-made m l bounds e t at a base end stands s u marks k n b holds =
-      holds
-      ∙ every-one (allBelow (holdOk 32 r) 32) _ (every-made _ _ (spare-marks r) (every-made _ _ (spare-holds r) every-none))
-      ∙ every-skip _ _ (sym k ∙ n)
-      ∙ every-skip _ _ (sym s ∙ u)
-      ∙ every-skip _ _ (le-leb (r .end .0) (r .base .0 + 32) end)
-      ∙ every-skip _ _ (ap not (ne-eqb (markAt 32 r (r .base .0)) 1 (rw a at base)))
-      ∙ every-back boundsOf (placesOf r) (sym e ∙ t)
-      ∙ every-skip _ _ (eq-eqb (length (r .holds)) 32 l)
-      ∙ every-skip _ _ (eq-eqb (length (r .marks)) 32 m)
+  pub hold-fails : (i : ℕ) → i < 32 → holdOk 32 r i ≡ false → false ≡ consistentOf 32 32 r
+  unfolding consistentOf
+  hold-fails i l h = every-fails (consistencyTests 32 32 r) 14 (sym (all-fails (holdOk 32 r) 32 i l h))
+
+  -- all but the number before end
+  module _ (marksSized : length (r .marks) ≡ 32) (holdsSized : length (r .holds) ≡ 32) (b : Bool) (bounds : b ≡ inBounds) (t : b ≡ true)
+      (at : ℕ) (place : at ≡ r .base .0 % 32) (base : getD (r .marks) at 0 ≡ 1 → ⊥) (near : r .end .0 ≤ r .base .0 + 32)
+      (marks : true ≡ allBelow (markOk 32 r) 32) (holds : true ≡ allBelow (holdOk 32 r) 32) where
+    decided : endStands r ≡ consistentOf 32 32 r
+    unfolding consistentOf boundsOk
+    decided =
+        every-one (endStands r) _ (every-made _ _ (sym marks) (every-made _ _ (sym holds) (every-made _ _ (spare-marks r) (every-made _ _ (spare-holds r) every-none))))
+        ∙ every-skip _ _ (le-leb (r .end .0) (r .base .0 + 32) near)
+        ∙ every-skip _ _ (ap not (ne-eqb (markAt 32 r (r .base .0)) 1 (rw place at base)))
+        ∙ every-back boundsOf (placesOf r) (sym bounds ∙ t)
+        ∙ every-skip _ _ (eq-eqb (length (r .holds)) 32 holdsSized)
+        ∙ every-skip _ _ (eq-eqb (length (r .marks)) 32 marksSized)
+
+    pub end-decides : (last : ℕ) → r .base .0 < r .end .0 → last ≡ (r .end .0 - 1) % 32 → eqb (getD (r .marks) last 0) 1 ≡ consistentOf 32 32 r
+    end-decides last l e = rw e (implies-if _ _ (lt-ltb (r .base .0) (r .end .0) l)) ∙ decided
+
+    pub end-low : r .end .0 ≤ r .base .0 → true ≡ consistentOf 32 32 r
+    end-low l = implies-else _ _ (le-ltb (r .base .0) (r .end .0) l) ∙ decided
 
 -- an array's length, told of its elements' machine values, is its elements'
 pub unmapped : (X Y : Type 0) (f : X → Y) (l : List X) (n : ℕ) → length (map f l) ≡ n → length l ≡ n
 unmapped X Y f l n p = sym (length-map l f) ∙ p
 
 -- the store's size
-pub sound-fails : (r : Receiver) (size : ℕ) (b : Bool) → b ≡ consistentOf 32 32 r → b ≡ false → false ≡ soundOf 32 32 r size
-unfolding soundOf
-sound-fails r size b e h = every-fails (consistentOf 32 32 r ∷ eqb size 39200 ∷ []) 0 (sym e ∙ h)
+pub size-unasked : (t : Bool) (size : ℕ) → t ≡ false → false ≡ soundBy t size
+unfolding soundBy
+size-unasked t size h = every-fails (t ∷ eqb size 39200 ∷ []) 0 h
 
-pub sound-sized : (r : Receiver) (size : ℕ) (b : Bool) → b ≡ consistentOf 32 32 r → b ≡ true → eqb size 39200 ≡ soundOf 32 32 r size
-unfolding soundOf
-sound-sized r size b e h = every-last (eqb size 39200) ∙ every-skip _ _ (sym e ∙ h)
+pub size-asked : (t : Bool) (size : ℕ) → t ≡ true → eqb size 39200 ≡ soundBy t size
+unfolding soundBy
+size-asked t size h = every-last (eqb size 39200) ∙ every-skip _ _ h
+
+pub sound-is : (r : Receiver) (size : ℕ) (t b : Bool) → t ≡ consistentOf 32 32 r → b ≡ soundBy t size → b ≡ soundOf 32 32 r size
+unfolding soundBy soundOf
+sound-is r size t b e h = h ∙ ap (λ (x : Bool). every (x ∷ eqb size 39200 ∷ [])) e
 
 -- WHAT A CONSISTENT RECORD TELLS
 
@@ -190,8 +187,8 @@ facts r h =
       holds = all-at (holdOk 32 r) 32 (every-at (consistencyTests 32 32 r) h 14);
     }
 
-pub sound-told : (r : Receiver) (size : ℕ) (b : Bool) → b ≡ soundOf 32 32 r size → b ≡ true → (consistentOf 32 32 r ≡ true) × (size ≡ 39200)
-unfolding soundOf
-sound-told r size b e h =
-    let t : every (consistentOf 32 32 r ∷ eqb size 39200 ∷ []) ≡ true = sym e ∙ h in
-    (every-at (consistentOf 32 32 r ∷ eqb size 39200 ∷ []) t 0, eqb-true size 39200 (every-at (consistentOf 32 32 r ∷ eqb size 39200 ∷ []) t 1))
+pub sound-told : (r : Receiver) (size : ℕ) (t b : Bool) → t ≡ consistentOf 32 32 r → b ≡ soundBy t size → b ≡ true → (consistentOf 32 32 r ≡ true) × (size ≡ 39200)
+unfolding soundBy
+sound-told r size t b e s h =
+    let q : every (t ∷ eqb size 39200 ∷ []) ≡ true = sym s ∙ h in
+    (sym e ∙ every-at (t ∷ eqb size 39200 ∷ []) q 0, eqb-true size 39200 (every-at (t ∷ eqb size 39200 ∷ []) q 1))

@@ -10,14 +10,15 @@ use borrow.Author.Tests.{lt-ltb, le-ltb, lt-leb, le-leb, ne-eqb}
 use Rattle.common.specs.Order.{test, first, first-here, first-skip, first-none}
 use Rattle.wire.specs.declared.Values.{Values}
 use Rattle.wire.specs.Flags.{dataIn, aoaIn}
+use Rattle.numbers.specs.Widen.{widenOf}
 use Rattle.receiver.specs.declared.Receiver.{Receiver}
 use Rattle.receiver.specs.declared.packet.Arrived.the-variants.{Refused, Nothing, Waiver, Content}
 use Rattle.receiver.specs.declared.packet.Found.{Found}
 use Rattle.receiver.specs.declared.packet.Found.the-variants.{Out, At}
 use Rattle.receiver.specs.Record.{highest}
 use Rattle.receiver.specs.Packet.{Packet, content, waived, packetAnswer, arrivalAnswer}
-use Rattle.receiver.specs.Receive.{onSome, dataNumber, channelNumber, aoaNumber, packetFrom, waiverFrom, arrivalFrom}
-use Rattle.receiver.specs.Judge.{foundOf, waivedAt, numbersAnswer, judgedFor, judgedOf}
+use Rattle.receiver.specs.Receive.{inPlace, onSome, dataNumber, channelNumber, aoaNumber, packetFrom, waiverFrom, arrivalFrom}
+use Rattle.receiver.specs.Judge.{foundOf, waivedAt, aoaOf, numbersAnswer, judgedFor, judgedOf}
 
 -- A PACKET'S NUMBERS
 
@@ -68,6 +69,30 @@ unfolding foundOf
 told-at none f n e h = cc
 told-at (some m) f n e h = let q : m ≡ n = cc in ap some q
 
+-- a field seen from base, and one seen from due
+abbrev fromBase : Receiver → ℕ → Option ℕ
+fromBase r f = inPlace (r .firstdata .0) (widenOf (r .base .0) f)
+
+abbrev fromDue : Receiver → ℕ → Option ℕ
+fromDue r f = inPlace (r .firstchannel .0) (widenOf (r .due .0) f)
+
+data-none : (r : Receiver) (f : ℕ) (x : Found) → x ≡ foundOf (fromBase r f) → x ≡ Out → dataNumber r f ≡ none
+unfolding dataNumber
+data-none r f x e h = told-out (fromBase r f) x e h
+
+data-some : (r : Receiver) (f : ℕ) (x : Found) (n : ℕ) → x ≡ foundOf (fromBase r f) → x ≡ At n → dataNumber r f ≡ some n
+unfolding dataNumber
+data-some r f x n e h = told-at (fromBase r f) x n e h
+
+channel-none : (r : Receiver) (f : ℕ) (x : Found) → x ≡ foundOf (fromDue r f) → x ≡ Out → channelNumber r f ≡ none
+unfolding channelNumber
+channel-none r f x e h = told-out (fromDue r f) x e h
+
+channel-some : (r : Receiver) (f : ℕ) (x : Found) (c : ℕ) → x ≡ foundOf (fromDue r f) → x ≡ At c → channelNumber r f ≡ some c
+unfolding channelNumber
+channel-some r f x c e h = told-at (fromDue r f) x c e h
+
+-- an AckOfAcks where it is flagged
 waived-out : (x : Option (Option ℕ)) (f : Found) → f ≡ waivedAt x → f ≡ Out → x ≡ none
 unfolding waivedAt
 waived-out none f e h = refl
@@ -77,6 +102,15 @@ waived-told : (x : Option (Option ℕ)) (f : Found) (u : ℕ) → f ≡ waivedAt
 unfolding waivedAt
 waived-told none f u e h = absurd (let z : _≡_ {A = ℕ} 0 1 = cc in omega arith)
 waived-told (some a) f u e h = (a, refl, cc)
+
+aoa-none : (r : Receiver) (flag : Bool) (f : ℕ) (x : Found) → x ≡ waivedAt (aoaOf flag (fromBase r f)) → x ≡ Out → aoaNumber r flag f ≡ none
+unfolding aoaOf aoaNumber dataNumber
+aoa-none r flag f x e h = waived-out (aoaNumber r flag f) x e h
+
+aoa-some : (r : Receiver) (flag : Bool) (f : ℕ) (x : Found) (u : ℕ) → x ≡ waivedAt (aoaOf flag (fromBase r f)) → x ≡ At u
+    → (a : Option ℕ) × (aoaNumber r flag f ≡ some a) × (u ≡ waived a)
+unfolding aoaOf aoaNumber dataNumber
+aoa-some r flag f x u e h = waived-told (aoaNumber r flag f) x u e h
 
 -- A PACKET OF DATA
 
@@ -109,36 +143,36 @@ unfolding judgedOf arrivalFrom onSome
 judged-some w r v p d e = rw (d, e) refl
 
 module _ (w : ℕ) (r : Receiver) (v : Values) (d : dataIn (v .flags) ≡ true) where
-  pub content-waived : (flag : Bool) (x : Found) → flag ≡ aoaIn (v .flags) → x ≡ waivedAt (aoaNumber r flag (v .aoa)) → x ≡ Out
+  pub content-waived : (flag : Bool) (x : Found) → flag ≡ aoaIn (v .flags) → x ≡ waivedAt (aoaOf flag (fromBase r (v .aoa))) → x ≡ Out
       → Refused ≡ judgedOf w r v
   unfolding packetFrom onSome
   content-waived flag x f e h =
-      let q : aoaNumber r (aoaIn (v .flags)) (v .aoa) ≡ none = rw f at (waived-out (aoaNumber r flag (v .aoa)) x e h) in
+      let q : aoaNumber r (aoaIn (v .flags)) (v .aoa) ≡ none = rw f at (aoa-none r flag (v .aoa) x e h) in
       judged-none w r v d (rw q refl)
 
-  pub content-number : (x : Found) → x ≡ foundOf (dataNumber r (v .number)) → x ≡ Out → Refused ≡ judgedOf w r v
+  pub content-number : (x : Found) → x ≡ foundOf (fromBase r (v .number)) → x ≡ Out → Refused ≡ judgedOf w r v
   unfolding packetFrom
   content-number x e h =
       judged-none w r v d
-      (ap (λ (n : Option ℕ). made (aoaNumber r (aoaIn (v .flags)) (v .aoa)) n (channelNumber r (v .channel)) []) (told-out (dataNumber r (v .number)) x e h)
+      (ap (λ (n : Option ℕ). made (aoaNumber r (aoaIn (v .flags)) (v .aoa)) n (channelNumber r (v .channel)) []) (data-none r (v .number) x e h)
       ∙ made-number (aoaNumber r (aoaIn (v .flags)) (v .aoa)) (channelNumber r (v .channel)) [])
 
-  pub content-channel : (x : Found) → x ≡ foundOf (channelNumber r (v .channel)) → x ≡ Out → Refused ≡ judgedOf w r v
+  pub content-channel : (x : Found) → x ≡ foundOf (fromDue r (v .channel)) → x ≡ Out → Refused ≡ judgedOf w r v
   unfolding packetFrom
   content-channel x e h =
       judged-none w r v d
-      (ap (λ (c : Option ℕ). made (aoaNumber r (aoaIn (v .flags)) (v .aoa)) (dataNumber r (v .number)) c []) (told-out (channelNumber r (v .channel)) x e h)
+      (ap (λ (c : Option ℕ). made (aoaNumber r (aoaIn (v .flags)) (v .aoa)) (dataNumber r (v .number)) c []) (channel-none r (v .channel) x e h)
       ∙ made-channel (aoaNumber r (aoaIn (v .flags)) (v .aoa)) (dataNumber r (v .number)) [])
 
-  module _ (flag : Bool) (x y z : Found) (u n c k : ℕ) (f : flag ≡ aoaIn (v .flags)) (ex : x ≡ waivedAt (aoaNumber r flag (v .aoa))) (hx : x ≡ At u)
-      (ey : y ≡ foundOf (dataNumber r (v .number))) (hy : y ≡ At n) (ez : z ≡ foundOf (channelNumber r (v .channel))) (hz : z ≡ At c)
+  module _ (flag : Bool) (x y z : Found) (u n c k : ℕ) (f : flag ≡ aoaIn (v .flags)) (ex : x ≡ waivedAt (aoaOf flag (fromBase r (v .aoa)))) (hx : x ≡ At u)
+      (ey : y ≡ foundOf (fromBase r (v .number))) (hy : y ≡ At n) (ez : z ≡ foundOf (fromDue r (v .channel))) (hz : z ≡ At c)
       (answer : k ≡ numbersAnswer w (r .base .0) (r .due .0) u n c) where
     found : (a : Option ℕ) × (aoaNumber r (aoaIn (v .flags)) (v .aoa) ≡ some a) × (u ≡ waived a)
-    found = waived-told (aoaNumber r (aoaIn (v .flags)) (v .aoa)) x u (ex ∙ ap (λ (t : Bool). waivedAt (aoaNumber r t (v .aoa))) f) hx
+    found = aoa-some r (aoaIn (v .flags)) (v .aoa) x u (ex ∙ ap (λ (t : Bool). waivedAt (aoaOf t (fromBase r (v .aoa)))) f) hx
 
     put-together : (a : Option ℕ) → aoaNumber r (aoaIn (v .flags)) (v .aoa) ≡ some a → packetFrom r v [] ≡ some (bare n c a)
     unfolding packetFrom onSome
-    put-together a q = rw (q, told-at (dataNumber r (v .number)) y n ey hy, told-at (channelNumber r (v .channel)) z c ez hz) refl
+    put-together a q = rw (q, data-some r (v .number) y n ey hy, channel-some r (v .channel) z c ez hz) refl
 
     answered : (a : Option ℕ) → u ≡ waived a → k ≡ packetAnswer w r (bare n c a)
     answered a e = answer ∙ ap (λ (m : ℕ). numbersAnswer w (r .base .0) (r .due .0) m n c) e ∙ numbers-are w r a n c []
@@ -171,21 +205,21 @@ module _ (w : ℕ) (r : Receiver) (v : Values) (b : Bool) (eb : b ≡ dataIn (v 
   unfolding waiverFrom arrivalAnswer
   waiver-absent f e h = let q : aoaIn (v .flags) ≡ false = sym e ∙ h in rw q at judged-waiver
 
-  module _ (f : Bool) (ef : f ≡ aoaIn (v .flags)) (hf : f ≡ true) (x : Found) (ex : x ≡ foundOf (dataNumber r (v .aoa))) where
+  module _ (f : Bool) (ef : f ≡ aoaIn (v .flags)) (hf : f ≡ true) (x : Found) (ex : x ≡ foundOf (fromBase r (v .aoa))) where
     pub waiver-out : x ≡ Out → Refused ≡ judgedOf w r v
     unfolding waiverFrom onSome
     waiver-out h =
         let q : aoaIn (v .flags) ≡ true = sym ef ∙ hf in
-        rw (q, told-out (dataNumber r (v .aoa)) x ex h) at judged-waiver
+        rw (q, data-none r (v .aoa) x ex h) at judged-waiver
 
     pub waiver-high : (u : ℕ) → x ≡ At u → highest < u → Refused ≡ judgedOf w r v
     unfolding waiverFrom onSome arrivalAnswer first
     waiver-high u h l =
         let q : aoaIn (v .flags) ≡ true = sym ef ∙ hf in
-        rw (q, told-at (dataNumber r (v .aoa)) x u ex h, lt-ltb highest u l) at judged-waiver
+        rw (q, data-some r (v .aoa) x u ex h, lt-ltb highest u l) at judged-waiver
 
     pub waiver-given : (u : ℕ) → x ≡ At u → u ≤ highest → Waiver u ≡ judgedOf w r v
     unfolding waiverFrom onSome arrivalAnswer first
     waiver-given u h l =
         let q : aoaIn (v .flags) ≡ true = sym ef ∙ hf in
-        rw (q, told-at (dataNumber r (v .aoa)) x u ex h, le-ltb highest u l) at judged-waiver
+        rw (q, data-some r (v .aoa) x u ex h, le-ltb highest u l) at judged-waiver

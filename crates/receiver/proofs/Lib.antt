@@ -1,6 +1,5 @@
 -- Laws that the functions' proofs cite.
 
-mod Every
 mod Consistency
 mod Moving
 mod Fields

@@ -18,7 +18,7 @@ use Rattle.receiver.specs.declared.Receiver.{Receiver}
 use Rattle.receiver.specs.Record.{highest, state, isHeld, empty, holdAt, contents}
 use Rattle.receiver.specs.Consistent.{holdOk, consistentOf, soundOf}
 use Rattle.receiver.specs.Take.{takeAnswer, blockDue, receiverTaken, takenOf}
-use Rattle.receiver.proofs.Every.{every-at}
+use Rattle.common.specs.EveryLaws.{every-at}
 use Rattle.receiver.proofs.Consistency.{facts}
 
 pub freed-is : (w : ℕ) (r : Receiver) (at : ℕ) → at ≡ r .due .0 % w

@@ -1,7 +1,7 @@
 -- Write acknowledgement: "if end is at most base, an ACK for base − 1 with the caller's time stamp modulo 2^24 and gap, n and scale 0; 11 if base is still
 -- the first number. Otherwise a vector without time stamp from base to end − 1".
 use Prim.Native.Nat.{ℕ, zero, suc, _+_, _-_, _%_, _^_}
-use mathlib.Core.Bool.{Bool, true, false, cond, not}
+use mathlib.Core.Bool.{Bool, false, cond, not}
 use mathlib.Core.List.{List, [], _∷_}
 use lib.ListN.{length}
 use lib.Dec.{eqb, leb, ltb}

@@ -1,14 +1,13 @@
 -- Laws of the acknowledgement that is written: its states, its length, and that nothing but the room can refuse it.
-use Prim.Native.Nat.{ℕ, zero, suc, _+_, _-_, _*_, _%_, _^_, _≤_, _<_}
-use mathlib.Core.Bool.{Bool, true, false, cond}
-use mathlib.Core.List.{List, [], _∷_, _++_}
+use Prim.Native.Nat.{ℕ, zero, suc, _+_, _-_, _%_, _^_, _≤_, _<_}
+use mathlib.Core.Bool.{false}
+use mathlib.Core.List.{[], _++_}
 use mathlib.Core.Path.{_≡_, refl, sym, _∙_, ap}
-use native.Mathlib.Nat.{add-zero, add-suc}
+use native.Mathlib.Nat.{add-zero}
 use native.Mathlib.Omega.{arith}
 use lib.ListN.{length, getD, length-append}
-use lib.Dec.{leb, ltb, eqb}
-use borrow.Author.Tests.{lt-leb, le-ltb, lt-ltb, eq-eqb}
-use Rattle.common.specs.Facts.{lt-or-ge}
+use lib.Dec.{leb}
+use borrow.Author.Tests.{lt-leb, le-ltb, eq-eqb}
 use Rattle.common.specs.Order.{first}
 use Rattle.vector.specs.Rule.{vectorOf}
 use Rattle.vector.specs.Laws.{vector-sevenths}

@@ -2,13 +2,13 @@
 -- numbers from base up to end.
 use Prim.Native.Nat.{ℕ, _+_, _-_, _≤_, _<_}
 use mathlib.Core.Bool.{Bool, true, false, cond}
-use mathlib.Core.List.{List, []}
+use mathlib.Core.List.{[]}
 use mathlib.Core.Logic.{_⊎_, inl, inr, ⊎-elim}
 use mathlib.Core.Path.{_≡_, refl, sym, _∙_, ap}
 use native.Mathlib.Omega.{arith}
-use lib.ListN.{length, getD}
+use lib.ListN.{length}
 use lib.Dec.{leb, ltb}
-use borrow.Author.Tests.{lt-leb, le-leb, le-ltb, lt-ltb, not-false}
+use borrow.Author.Tests.{lt-leb, le-ltb, lt-ltb, not-false}
 use Rattle.common.specs.Facts.{lt-or-ge, bool}
 use Rattle.common.specs.Order.{first-pass}
 use Rattle.vector.specs.Says.{names}
@@ -19,7 +19,7 @@ use Rattle.wire.specs.Same.{Says}
 use Rattle.wire.specs.WrittenReadsBack.{written-reads-back}
 use Rattle.receiver.specs.declared.Receiver.{Receiver}
 use Rattle.receiver.specs.Record.{isMarked, markAt}
-use Rattle.receiver.specs.Acknowledge.{statesFrom, statesOf, allThere, ackValues, vectorValues, acknowledgementOf, acknowledgeAnswer}
+use Rattle.receiver.specs.Acknowledge.{statesOf, allThere, ackValues, vectorValues, acknowledgementOf, acknowledgeAnswer}
 use Rattle.receiver.specs.Facts.{consistent-facts}
 use Rattle.receiver.specs.AcknowledgeLaws.{state-at, state-past, ack-accepted, vector-accepted}
 

@@ -21,7 +21,6 @@ use Rattle.wire.specs.Layout.{ackEnd, overheadEnd, delayEnd, aoaEnd, numberEnd,
 use Rattle.wire.specs.Read.{readOf, readPacket}
 use Rattle.wire.specs.Same.{bodyIn, Bytes}
 use Rattle.wire.specs.Round.Found.{found}
-use Rattle.receiver.specs.declared.Receiver.{Receiver}
 use Rattle.receiver.specs.Record.{State, isMarked, isHeld, empty, markAt, holdAt}
 use Rattle.receiver.specs.Fresh.{freshOf}
 use Rattle.receiver.specs.Packet.{Packet}

@@ -1,12 +1,11 @@
 -- The parts of a record's consistency that functions of their own answer, over numbers and one place.
-use Prim.Native.Nat.{ℕ, _-_}
+use Prim.Native.Nat.{ℕ}
 use mathlib.Core.Bool.{Bool, cond}
 use mathlib.Core.List.{List, [], _∷_}
 use lib.Dec.{eqb, leb, ltb}
 use Rattle.common.specs.Every.{every, implies}
 use Rattle.receiver.specs.declared.Hold.{Hold}
-use Rattle.receiver.specs.declared.Receiver.{Receiver}
-use Rattle.receiver.specs.Record.{highest, isMarked, isHeld, markAt}
+use Rattle.receiver.specs.Record.{highest, isMarked, isHeld}
 use Rattle.receiver.specs.Consistent.{isFlag}
 
 -- the firsts, base, end and due in their ranges
@@ -34,6 +33,6 @@ unfoldable pub holdFine : Hold → ℕ → Bool
 holdFine h c =
     cond (isHeld h) (every (leb (h .length) 1225 ∷ leb c highest ∷ [])) (every (eqb (h .held) 0 ∷ eqb (h .length) 0 ∷ []))
 
--- "or above base with end − 1 unmarked"
-unfoldable pub endStands : ℕ → Receiver → Bool
-endStands w r = implies (ltb (r .base .0) (r .end .0)) (isMarked (markAt w r (r .end .0 - 1)))
+-- "a lent block store not 39,200 bytes, or an inconsistent record", where it is known whether the record is consistent
+unfoldable pub soundBy : Bool → ℕ → Bool
+soundBy consistent size = every (consistent ∷ eqb size 39200 ∷ [])

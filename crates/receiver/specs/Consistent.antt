@@ -1,12 +1,11 @@
 -- What makes the receiver's half of a record inconsistent, in document 01's words, as a list of tests that a consistent record passes.
 -- w places are in use, of cap that the arrays have.
 use Prim.Native.Nat.{ℕ, _+_, _-_, _*_}
-use mathlib.Core.Bool.{Bool, true, false, cond, not}
+use mathlib.Core.Bool.{Bool, cond, not}
 use mathlib.Core.List.{List, [], _∷_}
 use lib.ListN.{length, getD}
 use lib.Dec.{eqb, leb, ltb}
 use Rattle.common.specs.Every.{every, allBelow, implies}
-use Rattle.receiver.specs.declared.Hold.{Hold}
 use Rattle.receiver.specs.declared.Receiver.{Receiver}
 use Rattle.receiver.specs.Record.{highest, isMarked, isHeld, empty, markAt, holdAt}
 

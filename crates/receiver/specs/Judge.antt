@@ -1,19 +1,20 @@
 -- Judging what a packet's values bring, apart from the block's bytes and before anything is changed; and what the judged numbers then leave.
 use Prim.Native.Nat.{ℕ, _+_, max}
-use mathlib.Core.Bool.{cond}
+use mathlib.Core.Bool.{Bool, false, cond, not}
 use mathlib.Core.Option.{Option, none, some}
 use mathlib.Core.List.{List, [], _∷_}
 use lib.Dec.{eqb, leb, ltb}
 use Rattle.common.specs.Order.{Test, test, first}
 use Rattle.wire.specs.declared.Values.{Values}
+use Rattle.receiver.specs.declared.Hold.{Hold}
 use Rattle.receiver.specs.declared.Receiver.{Receiver}
 use Rattle.receiver.specs.declared.packet.Arrived.{Arrived}
 use Rattle.receiver.specs.declared.packet.Arrived.the-variants.{Refused, Nothing, Waiver, Content}
 use Rattle.receiver.specs.declared.packet.Found.{Found}
 use Rattle.receiver.specs.declared.packet.Found.the-variants.{Out, At}
-use Rattle.receiver.specs.Record.{highest, State}
+use Rattle.receiver.specs.Record.{highest, State, isHeld}
 use Rattle.receiver.specs.Packet.{Packet, Arrival, nothing, waiver, content, waived, arrivalAnswer, receiverAfter, waiverAfter, storeAfter}
-use Rattle.receiver.specs.Receive.{arrivalFrom}
+use Rattle.receiver.specs.Receive.{onSome, arrivalFrom}
 
 -- a number that a field stands for, and the number below which all is waived
 unfoldable pub foundOf : Option ℕ → Found
@@ -23,6 +24,10 @@ foundOf (some n) = At n
 unfoldable pub waivedAt : Option (Option ℕ) → Found
 waivedAt none = Out
 waivedAt (some a) = At (waived a)
+
+-- an AckOfAcks where it is flagged, v what its field stands for
+unfoldable pub aoaOf : Bool → Option ℕ → Option (Option ℕ)
+aoaOf flag v = cond flag (onSome v (λ n. some (some n))) (some none)
 
 -- a packet's tests over its numbers alone
 abbrev pub numberTests : ℕ → ℕ → ℕ → ℕ → ℕ → ℕ → List Test
@@ -36,6 +41,10 @@ numberTests w base due v n c =
 
 unfoldable pub numbersAnswer : ℕ → ℕ → ℕ → ℕ → ℕ → ℕ → ℕ
 numbersAnswer w base due v n c = first (numberTests w base due v n c)
+
+-- is block c kept, where h stands at its place?
+unfoldable pub keptOf : ℕ → ℕ → Hold → Bool
+keptOf due c h = cond (ltb c due) false (not (isHeld h))
 
 -- document 01's number for each answer: "a data, channel or AckOfAcks number out of place" is 7
 abbrev pub numberOf : Arrived → ℕ

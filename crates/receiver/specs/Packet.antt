@@ -1,7 +1,7 @@
 -- What a packet does to the receiver, its numbers widened (document 01, "Receiver"): "AckOfAcks v waives all below v. Data number n must be below B + 32,
 -- B the larger of base and v, else 7. Channel number c must be below due + 32, else 7; numbers above the full range are 7."
 use Prim.Native.Nat.{ℕ, _+_, _%_, max}
-use mathlib.Core.Bool.{Bool, true, false, cond, not}
+use mathlib.Core.Bool.{Bool, false, cond, not}
 use mathlib.Core.Option.{Option, none, some}
 use mathlib.Core.List.{List, [], _∷_}
 use lib.ListN.{length, set}

@@ -1,6 +1,6 @@
 -- Receiving one datagram into the receiver's half: "13, then reading, then .. 7". Each field is widened against the record as given.
 use Prim.Native.Nat.{ℕ}
-use mathlib.Core.Bool.{Bool, true, false, cond}
+use mathlib.Core.Bool.{Bool, cond}
 use mathlib.Core.Option.{Option, none, some}
 use mathlib.Core.List.{List}
 use lib.ListN.{length}

@@ -1,6 +1,6 @@
 -- Take: "copies out the block that is due and frees its place, changing no byte of the store; 11 exactly if it is not held."
 use Prim.Native.Nat.{ℕ, _+_}
-use mathlib.Core.Bool.{Bool, cond, not}
+use mathlib.Core.Bool.{cond, not}
 use mathlib.Core.List.{List, [], _∷_}
 use lib.ListN.{length}
 use lib.Dec.{eqb, ltb}

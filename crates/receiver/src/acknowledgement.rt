@@ -3,12 +3,12 @@ ghost use mathlib.Core.Path.{_≡_};
 ghost use mathlib.Core.Bool.{true};
 ghost use mathlib.Core.List.{[]};
 ghost use Prim.Native.Nat.{_≤_, _<_};
-ghost use lib.ListN.{length, take};
+ghost use lib.ListN.{length};
 ghost use Rattle.common.specs.Answer.{writtenOf, leftOf};
 ghost use Rattle.vector.specs.Rule.{vectorOf};
 ghost use Rattle.wire.specs.Write.{datagramOf};
 ghost use Rattle.receiver.specs.Consistent.{consistentOf};
-ghost use Rattle.receiver.specs.Acknowledge.{statesFrom, statesOf, ackValues, vectorValues};
+ghost use Rattle.receiver.specs.Acknowledge.{statesOf, ackValues, vectorValues};
 ghost use Rattle.receiver.specs.Room.{roomAnswer};
 use crate::Receiver;
 use common::Written;
@@ -25,28 +25,12 @@ const ACKVEC: u16 = 8;
 // The LogWindowSize that the endpoint writes.
 const LOGWINDOW: u8 = 5;
 
-// The states of n numbers from base on; what follows them is not looked at.
-fn states_from(r: Receiver, n: usize) -> [bool; 32]
-    requires { ⌜ (r .base .0 ≤ 4294967296) × (n ≤ 32) ⌝ }
-    ensures { λ s. ⌜ (length s ≡ 32) × (take n s ≡ statesFrom 32 r (r .base .0) n) ⌝ }
-{
-    let base = r.base.0;
-    let mut states = [false; 32];
-    let mut i: usize = 0;
-    while i < n {
-        let at = window::data_place(base + i as u64);
-        let m = r.marks[at];
-        states[i] = m == 1;
-        i += 1;
-    }
-    states
-}
-
 // Writes an ACK for the number before base.
 pub fn write_ack(r: Receiver, stamp: u32, gap: u8, out: &mut [u8]) -> Written
     requires { ⌜ 1 ≤ r .base .0 ⌝ }
     ensures answer { λ x. ⌜ x ≡ writtenOf (roomAnswer (length (now (out .entry))) (datagramOf (ackValues r stamp gap) [] [] [])) (datagramOf (ackValues r stamp gap) [] [] []) ⌝ }
-    ensures bytes { λ x. ⌜ now (out .exit) ≡ leftOf (roomAnswer (length (now (out .entry))) (datagramOf (ackValues r stamp gap) [] [] [])) (datagramOf (ackValues r stamp gap) [] [] []) (now (out .entry)) ⌝ }
+    ensures bytes { λ x. ⌜ now (out .exit)
+        ≡ leftOf (roomAnswer (length (now (out .entry))) (datagramOf (ackValues r stamp gap) [] [] [])) (datagramOf (ackValues r stamp gap) [] [] []) (now (out .entry)) ⌝ }
 {
     let number = ((r.base.0 - 1) % 65536) as u16;
     let values = Values {
@@ -82,16 +66,27 @@ pub fn write_ack(r: Receiver, stamp: u32, gap: u8, out: &mut [u8]) -> Written
 pub fn write_vector(r: Receiver, out: &mut [u8]) -> Written
     requires { ⌜ consistentOf 32 32 r ≡ true ⌝ }
     requires { ⌜ r .base .0 < r .end .0 ⌝ }
-    ensures answer { λ x. ⌜ x ≡ writtenOf (roomAnswer (length (now (out .entry))) (datagramOf (vectorValues 32 r) [] (vectorOf (statesOf 32 r)) [])) (datagramOf (vectorValues 32 r) [] (vectorOf (statesOf 32 r)) []) ⌝ }
-    ensures bytes { λ x. ⌜ now (out .exit) ≡ leftOf (roomAnswer (length (now (out .entry))) (datagramOf (vectorValues 32 r) [] (vectorOf (statesOf 32 r)) [])) (datagramOf (vectorValues 32 r) [] (vectorOf (statesOf 32 r)) []) (now (out .entry)) ⌝ }
+    ensures answer { λ x. ⌜ x ≡ writtenOf (roomAnswer (length (now (out .entry))) (datagramOf (vectorValues 32 r) [] (vectorOf (statesOf 32 r)) []))
+        (datagramOf (vectorValues 32 r) [] (vectorOf (statesOf 32 r)) []) ⌝ }
+    ensures bytes { λ x. ⌜ now (out .exit) ≡ leftOf (roomAnswer (length (now (out .entry))) (datagramOf (vectorValues 32 r) [] (vectorOf (statesOf 32 r)) []))
+        (datagramOf (vectorValues 32 r) [] (vectorOf (statesOf 32 r)) []) (now (out .entry)) ⌝ }
 {
-    let n = (r.end.0 - r.base.0) as usize;
-    let states = states_from(r, n);
+    let from = r.base.0;
+    let n = (r.end.0 - from) as usize;
+    // The states of n numbers from base on; what follows them is not looked at.
+    let mut states = [false; 32];
+    let mut i: usize = 0;
+    while i < n {
+        let at = window::data_place(from + i as u64);
+        let m = r.marks[at];
+        states[i] = m == 1;
+        i += 1;
+    }
     let mut coded = [0u8; 32];
     let Written::Wrote(k) = coder::write(&states[..n], &mut coded) else {
         return Written::Refused(14);
     };
-    let base = (r.base.0 % 65536) as u16;
+    let base = (from % 65536) as u16;
     let values = Values {
         flags: ACKVEC,
         logwindow: LOGWINDOW,

@@ -1,9 +1,7 @@
 // Is a record consistent? Every place is looked at once.
 ghost use mathlib.Core.Path.{_≡_};
-ghost use Prim.Native.Nat.{_≤_};
-ghost use Rattle.common.specs.Every.{allBelow};
-ghost use Rattle.receiver.specs.Consistent.{markOk, holdOk, consistentOf, soundOf};
-ghost use Rattle.receiver.specs.Checking.{boundsOk, markFine, holdFine, endStands};
+ghost use Rattle.receiver.specs.Consistent.{consistentOf, soundOf};
+ghost use Rattle.receiver.specs.Checking.{boundsOk, markFine, holdFine, soundBy};
 use crate::Hold;
 use crate::Receiver;
 use numbers::ChannelNumber;
@@ -37,19 +35,6 @@ fn bounds_ok(firstdata: u64, firstchannel: u64, base: u64, end: u64, due: u64) -
     due <= crate::PAST
 }
 
-// Where end lies above base, is the number before it marked?
-fn end_stands(r: Receiver) -> bool
-    ensures { λ b. ⌜ b ≡ endStands 32 r ⌝ }
-{
-    let base = r.base.0;
-    let end = r.end.0;
-    if base < end {
-        let at = window::data_place(end - 1);
-        return r.marks[at] == 1;
-    }
-    true
-}
-
 // Is what stands at the place of number n a mark below end, or none?
 fn mark_ok(m: u8, n: u64, end: u64) -> bool
     ensures { λ r. ⌜ r ≡ markFine m n end ⌝ }
@@ -59,25 +44,6 @@ fn mark_ok(m: u8, n: u64, end: u64) -> bool
     }
     if m == 1 {
         return n < end;
-    }
-    true
-}
-
-// Does every mark lie below end?
-fn marks_ok(r: Receiver) -> bool
-    requires { ⌜ r .base .0 ≤ 4294967296 ⌝ }
-    ensures { λ b. ⌜ b ≡ allBelow (markOk 32 r) 32 ⌝ }
-{
-    let base = r.base.0;
-    let end = r.end.0;
-    let mut i: u64 = 0;
-    while i < DataNumber::WINDOW {
-        let at = window::data_place(base + i);
-        let m = r.marks[at];
-        if !mark_ok(m, base + i, end) {
-            return false;
-        }
-        i += 1;
     }
     true
 }
@@ -98,31 +64,14 @@ fn hold_ok(h: Hold, c: u64) -> bool
     h.length == 0
 }
 
-// Is every place for a block as it must be?
-fn holds_ok(r: Receiver) -> bool
-    requires { ⌜ r .due .0 ≤ 4294967296 ⌝ }
-    ensures { λ b. ⌜ b ≡ allBelow (holdOk 32 r) 32 ⌝ }
-{
-    let due = r.due.0;
-    let mut i: u64 = 0;
-    while i < ChannelNumber::WINDOW {
-        let at = window::channel_place(due + i);
-        let h = r.holds[at];
-        if !hold_ok(h, due + i) {
-            return false;
-        }
-        i += 1;
-    }
-    true
-}
-
 // Is the record consistent?
 pub fn consistent(r: Receiver) -> bool
     ensures { λ b. ⌜ b ≡ consistentOf 32 32 r ⌝ }
 {
     let base = r.base.0;
     let end = r.end.0;
-    if !bounds_ok(r.firstdata.0, r.firstchannel.0, base, end, r.due.0) {
+    let due = r.due.0;
+    if !bounds_ok(r.firstdata.0, r.firstchannel.0, base, end, due) {
         return false;
     }
     let at = window::data_place(base);
@@ -132,21 +81,47 @@ pub fn consistent(r: Receiver) -> bool
     if base + DataNumber::WINDOW < end {
         return false;
     }
-    if !end_stands(r) {
+    // Every mark lies below end.
+    let mut i: u64 = 0;
+    while i < DataNumber::WINDOW {
+        let at = window::data_place(base + i);
+        let m = r.marks[at];
+        if !mark_ok(m, base + i, end) {
+            return false;
+        }
+        i += 1;
+    }
+    // Every place for a block holds one that can be, or nothing.
+    let mut k: u64 = 0;
+    while k < ChannelNumber::WINDOW {
+        let at = window::channel_place(due + k);
+        let h = r.holds[at];
+        if !hold_ok(h, due + k) {
+            return false;
+        }
+        k += 1;
+    }
+    // Where end lies above base, the number before it is marked.
+    if base < end {
+        let at = window::data_place(end - 1);
+        return r.marks[at] == 1;
+    }
+    true
+}
+
+// Is a record sound, once it is known whether it is consistent? The lent store must be of the right size.
+pub fn sized(consistent: bool, size: usize) -> bool
+    ensures { λ b. ⌜ b ≡ soundBy consistent size ⌝ }
+{
+    if !consistent {
         return false;
     }
-    if !marks_ok(r) {
-        return false;
-    }
-    holds_ok(r)
+    size == crate::STORE
 }
 
 // Is the record consistent, and the lent store of the right size?
 pub fn sound(r: Receiver, size: usize) -> bool
     ensures { λ b. ⌜ b ≡ soundOf 32 32 r size ⌝ }
 {
-    if !consistent(r) {
-        return false;
-    }
-    size == crate::STORE
+    sized(consistent(r), size)
 }

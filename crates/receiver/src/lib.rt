@@ -93,7 +93,7 @@ pub fn receive(r: Receiver, store: &mut [u8], d: &[u8]) -> Received
     ensures record { λ x. ⌜ x .receiver ≡ receiveOf 32 32 (state r (now (store .entry))) (now (d .entry)) .receiver ⌝ }
     ensures bytes { λ x. ⌜ now (store .exit) ≡ receiveOf 32 32 (state r (now (store .entry))) (now (d .entry)) .store ⌝ }
 {
-    if !checking::sound(r, store.len()) {
+    if !checking::sized(checking::consistent(r), store.len()) {
         return Received {
             answer: 13,
             receiver: r,
@@ -140,7 +140,7 @@ pub fn take(r: Receiver, store: &[u8], out: &mut [u8]) -> Taken
     ensures record { λ x. ⌜ x .receiver ≡ takenOf 32 32 (state r (now (store .entry))) (length (now (out .entry))) ⌝ }
     ensures bytes { λ x. ⌜ now (out .exit) ≡ leftOf (takeAnswer 32 32 (state r (now (store .entry))) (length (now (out .entry)))) (blockDue 32 (state r (now (store .entry)))) (now (out .entry)) ⌝ }
 {
-    if !checking::sound(r, store.len()) {
+    if !checking::sized(checking::consistent(r), store.len()) {
         return Taken {
             written: Written::Refused(13),
             receiver: r,

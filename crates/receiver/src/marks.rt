@@ -24,7 +24,7 @@ pub fn larger(a: u64, b: u64) -> u64
 }
 
 // All below v is waived.
-pub fn lift(m: Marks, v: u64) -> Marks
+fn lift(m: Marks, v: u64) -> Marks
     requires { ⌜ m .base ≤ 4294967296 ⌝ }
     ensures { λ q. ⌜ (winOf q ≡ lifted 0 32 v (winOf m)) × (q .base ≤ m .base + 32 + v) ⌝ }
 {
@@ -46,7 +46,7 @@ pub fn lift(m: Marks, v: u64) -> Marks
 }
 
 // Number n is marked, unless below base.
-pub fn mark(m: Marks, n: u64) -> Marks
+fn mark(m: Marks, n: u64) -> Marks
     ensures { λ q. ⌜ (winOf q ≡ marked 32 (winOf m) n) × (q .base ≡ m .base) ⌝ }
 {
     if n < m.base {
@@ -59,7 +59,7 @@ pub fn mark(m: Marks, n: u64) -> Marks
 }
 
 // Base moves past marked places.
-pub fn advance(m: Marks) -> Marks
+fn advance(m: Marks) -> Marks
     requires { ⌜ m .base < 2 ^ 34 ⌝ }
     ensures { λ q. ⌜ winOf q ≡ slid 0 32 isMarked 32 (winOf m) ⌝ }
 {
@@ -76,4 +76,20 @@ pub fn advance(m: Marks) -> Marks
         k += 1;
     }
     next
+}
+
+// All below v is waived, and base moves past marked places.
+pub fn waive(m: Marks, v: u64) -> Marks
+    requires { ⌜ (m .base ≤ 4294967296) × (v ≤ 4294967295) ⌝ }
+    ensures { λ q. ⌜ winOf q ≡ slid 0 32 isMarked 32 (lifted 0 32 v (winOf m)) ⌝ }
+{
+    advance(lift(m, v))
+}
+
+// All below v is waived, number n is marked, and base moves past marked places.
+pub fn note(m: Marks, n: u64, v: u64) -> Marks
+    requires { ⌜ (m .base ≤ 4294967296) × (v ≤ 4294967295) ⌝ }
+    ensures { λ q. ⌜ winOf q ≡ slid 0 32 isMarked 32 (marked 32 (lifted 0 32 v (winOf m)) n) ⌝ }
+{
+    advance(mark(lift(m, v), n))
 }

@@ -1,18 +1,17 @@
 // What a packet brings the receiver: judged first, on the record as given, then applied.
 ghost use mathlib.Core.Path.{_≡_};
-ghost use mathlib.Core.Bool.{true};
-ghost use Prim.Native.Nat.{_+_, _≤_, _<_};
+ghost use mathlib.Core.Bool.{true, cond};
+ghost use Prim.Native.Nat.{_+_, _≤_};
 ghost use lib.ListN.{length};
-ghost use Rattle.wire.specs.Flags.{dataIn};
+ghost use Rattle.common.specs.Put.{putOf};
+ghost use Rattle.numbers.specs.Widen.{widenOf};
 ghost use Rattle.wire.specs.Layout.{partOf};
 ghost use Rattle.wire.specs.Read.{readOf};
 ghost use Rattle.wire.specs.declared.Reading.the-variants.{Read};
-ghost use Rattle.receiver.specs.Record.{marksOf, state};
+ghost use Rattle.receiver.specs.Record.{holding, storePlace, state};
 ghost use Rattle.receiver.specs.Consistent.{consistentOf};
-ghost use Rattle.receiver.specs.Packet.{keeps, receiverAfter, waiverAfter, storeAfter};
-ghost use Rattle.receiver.specs.Receive.{dataNumber, channelNumber, aoaNumber, valuesOf};
-ghost use Rattle.receiver.specs.Marks.{winOf, withMarks, notedOf, withHold};
-ghost use Rattle.receiver.specs.Judge.{foundOf, waivedAt, numbersAnswer, judgedOf, numberOf, packetWith};
+ghost use Rattle.receiver.specs.Receive.{inPlace, valuesOf};
+ghost use Rattle.receiver.specs.Judge.{foundOf, waivedAt, aoaOf, numbersAnswer, keptOf, judgedOf, numberOf};
 use crate::Hold;
 use crate::Receiver;
 use crate::marks;
@@ -43,12 +42,10 @@ pub enum Found {
 }
 
 // The data number that a field stands for, seen from base.
-fn data_number(r: Receiver, field: u16) -> Found
-    requires { ⌜ r .base .0 ≤ 4294967296 ⌝ }
-    ensures { λ x. ⌜ x ≡ foundOf (dataNumber r field) ⌝ }
+fn data_number(base: DataNumber, first: DataNumber, field: u16) -> Found
+    requires { ⌜ base .0 ≤ 4294967296 ⌝ }
+    ensures { λ x. ⌜ x ≡ foundOf (inPlace (first .0) (widenOf (base .0) field)) ⌝ }
 {
-    let base = r.base;
-    let first = r.firstdata;
     let wide = DataNumber::widen(base, field);
     if wide.out_of_place(first) {
         return Found::Out;
@@ -60,12 +57,10 @@ fn data_number(r: Receiver, field: u16) -> Found
 }
 
 // The channel number that a field stands for, seen from due.
-fn channel_number(r: Receiver, field: u16) -> Found
-    requires { ⌜ r .due .0 ≤ 4294967296 ⌝ }
-    ensures { λ x. ⌜ x ≡ foundOf (channelNumber r field) ⌝ }
+fn channel_number(due: ChannelNumber, first: ChannelNumber, field: u16) -> Found
+    requires { ⌜ due .0 ≤ 4294967296 ⌝ }
+    ensures { λ x. ⌜ x ≡ foundOf (inPlace (first .0) (widenOf (due .0) field)) ⌝ }
 {
-    let due = r.due;
-    let first = r.firstchannel;
     let wide = ChannelNumber::widen(due, field);
     if wide.out_of_place(first) {
         return Found::Out;
@@ -77,12 +72,12 @@ fn channel_number(r: Receiver, field: u16) -> Found
 }
 
 // The number below which all is waived; 0 where no AckOfAcks is flagged.
-fn waived_to(r: Receiver, flag: bool, field: u16) -> Found
-    requires { ⌜ r .base .0 ≤ 4294967296 ⌝ }
-    ensures { λ x. ⌜ x ≡ waivedAt (aoaNumber r flag field) ⌝ }
+fn waived_to(flag: bool, base: DataNumber, first: DataNumber, field: u16) -> Found
+    requires { ⌜ base .0 ≤ 4294967296 ⌝ }
+    ensures { λ x. ⌜ x ≡ waivedAt (aoaOf flag (inPlace (first .0) (widenOf (base .0) field))) ⌝ }
 {
     if flag {
-        return data_number(r, field);
+        return data_number(base, first, field);
     }
     Found::At(0)
 }
@@ -110,38 +105,33 @@ fn number_answer(base: u64, due: u64, v: u64, n: u64, c: u64) -> u8
     0
 }
 
-// Judges a packet of data.
-fn judge_content(r: Receiver, v: Values) -> Arrived
-    requires { ⌜ consistentOf 32 32 r ≡ true ⌝ }
-    requires { ⌜ dataIn (v .flags) ≡ true ⌝ }
-    ensures { λ a. ⌜ a ≡ judgedOf 32 r v ⌝ }
-{
-    let flag = wire::bits::flag(v.flags, wire::AOA);
-    let Found::At(u) = waived_to(r, flag, v.aoa) else {
-        return Arrived::Refused;
-    };
-    let Found::At(n) = data_number(r, v.number) else {
-        return Arrived::Refused;
-    };
-    let Found::At(c) = channel_number(r, v.channel) else {
-        return Arrived::Refused;
-    };
-    if number_answer(r.base.0, r.due.0, u, n, c) != 0 {
-        return Arrived::Refused;
-    }
-    Arrived::Content(n, c, u)
-}
-
 // Judges what a packet's values bring the receiver. Nothing is changed.
 pub fn judge(r: Receiver, v: Values) -> Arrived
     requires { ⌜ consistentOf 32 32 r ≡ true ⌝ }
     ensures { λ a. ⌜ a ≡ judgedOf 32 r v ⌝ }
 {
+    let base = r.base;
+    let first = r.firstdata;
+    let aoa = wire::bits::flag(v.flags, wire::AOA);
     if wire::bits::flag(v.flags, wire::DATA) {
-        return judge_content(r, v);
+        let due = r.due;
+        let firstchannel = r.firstchannel;
+        let Found::At(u) = waived_to(aoa, base, first, v.aoa) else {
+            return Arrived::Refused;
+        };
+        let Found::At(n) = data_number(base, first, v.number) else {
+            return Arrived::Refused;
+        };
+        let Found::At(c) = channel_number(due, firstchannel, v.channel) else {
+            return Arrived::Refused;
+        };
+        if number_answer(base.0, due.0, u, n, c) != 0 {
+            return Arrived::Refused;
+        }
+        return Arrived::Content(n, c, u);
     }
-    if wire::bits::flag(v.flags, wire::AOA) {
-        let Found::At(u) = data_number(r, v.aoa) else {
+    if aoa {
+        let Found::At(u) = data_number(base, first, v.aoa) else {
             return Arrived::Refused;
         };
         if crate::HIGHEST < u {
@@ -164,98 +154,24 @@ pub fn number(a: Arrived) -> u8
     }
 }
 
-// The record's window of marks.
-fn marks_of(r: Receiver) -> Marks
-    ensures { λ m. ⌜ winOf m ≡ marksOf r ⌝ }
+// Stores block c, n bytes of the datagram, unless it is a repeat: one below due, or already held. Answers what then stands at its place; h stood there.
+fn hold(store: &mut [u8], d: &[u8], body: usize, n: usize, c: u64, due: u64, h: Hold) -> Hold
+    requires { ⌜ (length (now store) ≡ 39200) × (8 ≤ length (now d)) × (1 ≤ body) × (body + n ≤ length (now d)) × (n ≤ 1225) ⌝ }
+    ensures place { λ x. ⌜ x ≡ cond (keptOf due c h) (holding n) h ⌝ }
+    ensures bytes { λ x. ⌜ now (store .exit) ≡ cond (keptOf due c h) (putOf (now (store .entry)) (storePlace 32 c) (partOf (now (d .entry)) body n)) (now (store .entry)) ⌝ }
 {
-    let places = r.marks;
-    Marks {
-        base: r.base.0,
-        places,
+    if c < due {
+        return h;
     }
-}
-
-// The record with other marks, and with this end.
-fn with_marks(r: Receiver, m: Marks, end: u64) -> Receiver
-    ensures { λ q. ⌜ q ≡ withMarks r (winOf m) end ⌝ }
-{
-    let base = DataNumber(m.base);
-    let last = DataNumber(end);
-    let places = m.places;
-    let mut q = r;
-    q.base = base;
-    q.end = last;
-    q.marks = places;
-    q
-}
-
-// All below v is waived, and base moves past marked places.
-fn waive(r: Receiver, v: u64) -> Receiver
-    requires { ⌜ (r .base .0 ≤ 4294967296) × (v ≤ 4294967295) ⌝ }
-    ensures { λ q. ⌜ q ≡ waiverAfter 32 r v ⌝ }
-{
-    let lifted = marks::lift(marks_of(r), v);
-    let moved = marks::advance(lifted);
-    with_marks(r, moved, r.end.0)
-}
-
-// All below v is waived, number n is marked, base moves past marked places, and end is raised.
-fn note(r: Receiver, n: u64, v: u64) -> Receiver
-    requires { ⌜ (r .base .0 ≤ 4294967296) × (n ≤ 4294967295) × (v ≤ 4294967295) ⌝ }
-    ensures { λ q. ⌜ q ≡ notedOf 32 r n v ⌝ }
-{
-    let lifted = marks::lift(marks_of(r), v);
-    let marked = marks::mark(lifted, n);
-    let moved = marks::advance(marked);
-    let end = marks::larger(r.end.0, n + 1);
-    with_marks(r, moved, end)
-}
-
-// Is block c kept? One below due, or already held, is a repeat.
-fn keeps(r: Receiver, c: u64) -> bool
-    ensures { λ b. ⌜ b ≡ keeps 32 r c ⌝ }
-{
-    if c < r.due.0 {
-        return false;
+    if h.held == 1 {
+        return h;
     }
     let at = window::channel_place(c);
-    let h = r.holds[at];
-    h.held != 1
-}
-
-// A block of this length is held at a place.
-fn hold(r: Receiver, at: usize, length: u16) -> Receiver
-    requires { ⌜ at < 32 ⌝ }
-    ensures { λ q. ⌜ q ≡ withHold r at length ⌝ }
-{
-    let mut q = r;
-    q.holds[at] = Hold { held: 1, length };
-    q
-}
-
-// A packet of data that was accepted; its block stands at a place of the datagram.
-fn content(
-    r: Receiver,
-    store: &mut [u8],
-    d: &[u8],
-    body: usize,
-    bytes: usize,
-    n: u64,
-    c: u64,
-    v: u64,
-) -> Receiver
-    requires { ⌜ (r .base .0 ≤ 4294967296) × (n ≤ 4294967295) × (v ≤ 4294967295) × (length (now store) ≡ 39200) ⌝ }
-    requires { ⌜ (8 ≤ length (now d)) × (1 ≤ body) × (body + bytes ≤ length (now d)) × (bytes ≤ 1225) ⌝ }
-    ensures record { λ q. ⌜ q ≡ receiverAfter 32 r (packetWith n c v (partOf (now (d .entry)) body bytes)) ⌝ }
-    ensures bytes { λ q. ⌜ now (store .exit) ≡ storeAfter 32 (state r (now (store .entry))) (packetWith n c v (partOf (now (d .entry)) body bytes)) ⌝ }
-{
-    let q = note(r, n, v);
-    if keeps(r, c) {
-        let at = window::channel_place(c);
-        wire::reader::copy_part(store, at * crate::PLACE, d, body, bytes);
-        return hold(q, at, bytes as u16);
+    wire::reader::copy_part(store, at * crate::PLACE, d, body, n);
+    Hold {
+        held: 1,
+        length: n as u16,
     }
-    q
 }
 
 // Applies what a packet was judged to bring; a refusal changes nothing.
@@ -267,10 +183,36 @@ pub fn apply(r: Receiver, store: &mut [u8], d: &[u8], p: wire::Packet, a: Arrive
     ensures record { λ q. ⌜ q ≡ valuesOf 32 (state r (now (store .entry))) (now (d .entry)) p .receiver ⌝ }
     ensures bytes { λ q. ⌜ now (store .exit) ≡ valuesOf 32 (state r (now (store .entry))) (now (d .entry)) p .store ⌝ }
 {
+    let places = r.marks;
+    let before = Marks {
+        base: r.base.0,
+        places,
+    };
     match a {
         Arrived::Refused => r,
         Arrived::Nothing => r,
-        Arrived::Waiver(v) => waive(r, v),
-        Arrived::Content(n, c, v) => content(r, store, d, p.body, p.bytes, n, c, v),
+        Arrived::Waiver(v) => {
+            let after = marks::waive(before, v);
+            let base = DataNumber(after.base);
+            let marks = after.places;
+            let mut q = r;
+            q.base = base;
+            q.marks = marks;
+            q
+        }
+        Arrived::Content(n, c, v) => {
+            let after = marks::note(before, n, v);
+            let base = DataNumber(after.base);
+            let end = DataNumber(marks::larger(r.end.0, n + 1));
+            let marks = after.places;
+            let at = window::channel_place(c);
+            let h = hold(store, d, p.body, p.bytes, c, r.due.0, r.holds[at]);
+            let mut q = r;
+            q.base = base;
+            q.end = end;
+            q.marks = marks;
+            q.holds[at] = h;
+            q
+        }
     }
 }

@@ -2,23 +2,19 @@
 use Prim.Native.Nat.{ℕ, _+_, _-_, _≤_, _<_}
 use mathlib.Core.Bool.{Bool, true, false, cond}
 use mathlib.Core.List.{List}
-use mathlib.Core.Logic.{⊎-elim}
 use mathlib.Core.Path.{_≡_, refl, sym, _∙_, ap}
 use native.Mathlib.Omega.{arith}
 use lib.ListN.{replicate}
 use lib.Dec.{leb}
 use borrow.Author.Tests.{lt-ltb, le-ltb, lt-leb, le-leb, eq-eqb, ne-eqb}
 use Rattle.common.specs.Choice.{when, unless}
-use Rattle.common.specs.Facts.{bool}
 use Rattle.numbers.specs.declared.DataNumber.{DataNumber}
 use Rattle.numbers.specs.declared.Widened.{Widened}
 use Rattle.numbers.specs.declared.Widened.the-variants.{At, Below}
-use Rattle.numbers.specs.declared.WidenedData.{WidenedData}
 use Rattle.numbers.specs.declared.WidenedData.the-variants.{At as DataAt, Below as DataBelow}
 use Rattle.numbers.specs.Widen.{widenOf, backOf, dataOf, fromData}
 use Rattle.vector.specs.Says.{statesOf}
 use Rattle.wire.specs.declared.Packet.{Packet}
-use Rattle.wire.specs.declared.Reading.{Reading}
 use Rattle.wire.specs.declared.Reading.the-variants.{Refused, Dummy, Read}
 use Rattle.wire.specs.Read.{readOf}
 use Rattle.sender.specs.declared.Sender.{Sender}

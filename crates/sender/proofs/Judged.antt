@@ -1,18 +1,15 @@
 -- Consistency, judged: a law for each way out of the function that judges it.
-use Prim.Native.Nat.{ℕ, _+_, _%_, _<_}
-use mathlib.Core.Bool.{Bool, true, false, cond}
-use mathlib.Core.List.{List}
-use mathlib.Core.Path.{_≡_, sym, _∙_, subst}
-use lib.ListN.{length, getD}
+use Prim.Native.Nat.{ℕ, _<_}
+use mathlib.Core.Bool.{Bool, true, false}
+use mathlib.Core.Path.{_≡_, sym, _∙_}
 use Rattle.common.specs.Every.{allBelow}
 use Rattle.common.specs.Facts.{clash, not-so, fails}
 use Rattle.sender.specs.declared.Sender.{Sender}
-use Rattle.sender.specs.Record.{isPending, isInFlight, isAcknowledged, numberPasses, numberAt, blockAt}
+use Rattle.sender.specs.Record.{isAcknowledged, numberPasses, numberAt, blockAt}
 use Rattle.sender.specs.Bounds.{rangeOf, timeoutOf}
-use Rattle.sender.specs.Consistent.{numberFits, blockFits, numberOk, blockOk, consistentOf}
+use Rattle.sender.specs.Consistent.{numberOk, blockOk, consistentOf}
 use Rattle.common.specs.EveryLaws.{all-fails}
-use Rattle.sender.proofs.Passing.{Passes, Range, consistent-passes, passes-consistent}
-use Rattle.sender.proofs.Marks.{Marked, mark-twice, number-judged, block-judged}
+use Rattle.sender.proofs.Passing.{consistent-passes}
 
 pub bad-range : (s : Sender) (r : Bool) → r ≡ rangeOf 32 (s .firstdata .0) (s .low .0) (s .next .0) → r ≡ false → false ≡ consistentOf 32 32 s
 bad-range s r e t = fails _ _ (λ h. consistent-passes s h .range) (sym e ∙ t)

@@ -8,7 +8,7 @@ use native.Mathlib.Omega.{arith}
 use native.Mathlib.Nat.{mod-lt}
 use lib.ListN.{length, getD, set, replicate, length-set, length-replicate}
 use lib.Seq.{getD-set-same, getD-set-other}
-use lib.Dec.{leb, ltb, eqb}
+use lib.Dec.{leb, eqb}
 use borrow.Author.Tests.{lt-leb, leb-true, ltb-true, leb-false, eqb-true, eqb-false, eq-eqb, ne-eqb}
 use Rattle.common.specs.Every.{every, allBelow, countBelow}
 use Rattle.common.specs.Facts.{bool, clash, not-so}
@@ -16,8 +16,8 @@ use Rattle.window.specs.Places.{place-same}
 use Rattle.sender.specs.declared.NumberPlace.{NumberPlace}
 use Rattle.sender.specs.declared.BlockPlace.{BlockPlace}
 use Rattle.sender.specs.declared.Sender.{Sender}
-use Rattle.sender.specs.Record.{isPending, isInFlight, isWaiting, isAcknowledged, numberAt, blockAt}
-use Rattle.sender.specs.Consistent.{zeroNumber, zeroBlock, pendingTests, doneTests, numberFits, blockFits, carries, oneCarrier, numberOk, blockOk}
+use Rattle.sender.specs.Record.{isPending, isInFlight, numberAt, blockAt}
+use Rattle.sender.specs.Consistent.{zeroNumber, pendingTests, doneTests, numberFits, blockFits, carries, oneCarrier, numberOk, blockOk}
 use Rattle.common.specs.EveryLaws.{every-at, all-fails}
 use Rattle.common.specs.CountLaws.{one, count-none, count-next, count-grows}
 use Rattle.sender.proofs.Passing.{Range}

@@ -3,11 +3,10 @@ use Prim.Native.Nat.{ℕ, _+_, _≤_}
 use mathlib.Core.Bool.{Bool, true, false, cond, not}
 use mathlib.Core.List.{List, [], _∷_}
 use mathlib.Core.Path.{_≡_, refl, sym, _∙_, ap}
-use native.Mathlib.Omega.{arith}
 use lib.ListN.{length, getD}
 use lib.Dec.{leb, eqb}
 use borrow.Author.Tests.{eq-eqb, lt-leb, leb-true, eqb-true}
-use Rattle.common.specs.Every.{every, allBelow, implies}
+use Rattle.common.specs.Every.{every, allBelow}
 use Rattle.common.specs.EveryLaws.{all-every, all-from, imply, every-at}
 use Rattle.common.specs.Facts.{clash, not-so}
 use Rattle.sender.specs.declared.Sender.{Sender}

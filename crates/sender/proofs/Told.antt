@@ -8,7 +8,7 @@ use native.Mathlib.Omega.{arith}
 use lib.ListN.{length, getD, replicate, length-replicate}
 use lib.Dec.{leb, ltb, eqb}
 use borrow.Author.Tests.{le-leb, lt-leb, lt-ltb, le-ltb}
-use Rattle.common.specs.Facts.{bool, lt-or-ge}
+use Rattle.common.specs.Facts.{lt-or-ge}
 use Rattle.common.specs.Order.{test, first}
 use Rattle.numbers.specs.Widen.{widenOf}
 use Rattle.wire.specs.declared.Packet.{Packet}
@@ -24,14 +24,12 @@ use Rattle.numbers.specs.declared.Widened.{Widened}
 use Rattle.numbers.specs.declared.Widened.the-variants.{At, Below}
 use Rattle.vector.specs.Says.{statesOf, names}
 use Rattle.sender.specs.declared.Sender.{Sender}
-use Rattle.sender.specs.declared.acknowledging.Walked.{Walked}
 use Rattle.sender.specs.declared.acknowledging.Judged.{Judged}
 use Rattle.sender.specs.Consistent.{consistentOf}
-use Rattle.sender.specs.Turn.{turnedOf}
 use Rattle.sender.specs.Chosen.{chosenBy}
 use Rattle.sender.specs.Acknowledge.{Told, silent, upTo, listed, acknowledging, acknowledgedOf, namesUnsent, toldAnswer, toldNames, toldOf, toldBy}
 use Rattle.sender.specs.Walk.{walkOf, nothing, judgeUpTo, fromWalk, judgeListed, appliedOf}
-use Rattle.sender.proofs.Passing.{Passes, Range, consistent-passes, range-facts}
+use Rattle.sender.proofs.Passing.{consistent-passes, range-facts}
 use Rattle.sender.proofs.Turned.{turned-ext, turned-nothing}
 use Rattle.sender.proofs.Naming.{stateAt, walk-never, walk-flags}
 

@@ -1,16 +1,14 @@
 -- Turning, number by number, and both lows moving on: a law for each step of the code.
-use Prim.Native.Nat.{ℕ, zero, suc, _+_, _-_, _%_, _≤_, _<_}
+use Prim.Native.Nat.{ℕ, zero, suc, _+_, _-_, _≤_, _<_}
 use mathlib.Core.Bool.{Bool, true, false, cond}
 use mathlib.Core.Logic.{⊎-elim}
 use mathlib.Core.Path.{_≡_, refl, sym, _∙_, ap}
 use native.Mathlib.Omega.{arith}
 use native.Mathlib.Numerals.{add-one}
 use Rattle.common.specs.Facts.{bool}
-use Rattle.window.specs.Window.{Win, passed, slid}
-use Rattle.sender.specs.declared.NumberPlace.{NumberPlace}
-use Rattle.sender.specs.declared.BlockPlace.{BlockPlace}
+use Rattle.window.specs.Window.{passed, slid}
 use Rattle.sender.specs.declared.Sender.{Sender}
-use Rattle.sender.specs.Record.{isPending, isAcknowledged, numberPasses, blockPasses, noNumber, noBlock, numbersOf, blocksOf, numberAt, blockAt}
+use Rattle.sender.specs.Record.{isPending, isAcknowledged, numberPasses, noNumber, noBlock, numbersOf, blocksOf, numberAt, blockAt}
 use Rattle.sender.specs.Turn.{Turn, turnedAt, turnOne, turnUpTo, withNumbers, withBlocks, numbersMoved, blocksMoved, turnedOf}
 
 -- the first i numbers from low on

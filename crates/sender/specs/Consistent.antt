@@ -1,7 +1,7 @@
 -- What makes the sender's half of a record inconsistent, in document 01's words, as a list of tests that a consistent record passes.
 -- w places are in use, of cap that the arrays have.
 use Prim.Native.Nat.{ℕ, _+_, _*_}
-use mathlib.Core.Bool.{Bool, true, false, cond, not}
+use mathlib.Core.Bool.{Bool, true, cond, not}
 use mathlib.Core.List.{List, [], _∷_}
 use lib.ListN.{length, getD}
 use lib.Dec.{eqb, leb, ltb}

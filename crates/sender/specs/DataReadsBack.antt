@@ -1,6 +1,6 @@
 -- What a new block or a resend writes reads back as exactly its values: the AckOfAcks, the data number, the channel number and the block, and nothing else.
 use Prim.Native.Nat.{ℕ, _+_, _≤_, _<_}
-use mathlib.Core.List.{List, [], _++_}
+use mathlib.Core.List.{List, []}
 use mathlib.Core.Option.{some}
 use mathlib.Core.Path.{_≡_, refl, _∙_}
 use native.Mathlib.Omega.{arith}

@@ -1,8 +1,8 @@
 -- Sweep: "judged on the record at entry, a pending number is lost if three or more higher numbers in range are received, or its age reaches the timeout. Its block
 -- waits. The answer is how many became lost."
 use Prim.Native.Nat.{ℕ, _+_}
-use mathlib.Core.Bool.{Bool, true, false, cond, not}
-use mathlib.Core.List.{List, [], _∷_}
+use mathlib.Core.Bool.{Bool, true, cond, not}
+use mathlib.Core.List.{[], _∷_}
 use lib.Dec.{eqb, leb, ltb}
 use Rattle.common.specs.Every.{every, countBelow}
 use Rattle.common.specs.Order.{test, first}

@@ -1,7 +1,7 @@
 -- Some pending numbers turn, and their blocks with them; then both lows move on. Acknowledging turns numbers to received and blocks to acknowledged;
 -- sweeping turns numbers to lost and blocks to waiting. "A place keeps all but its state until its low passes it."
 use Prim.Native.Nat.{ℕ, zero, suc, _+_, _%_}
-use mathlib.Core.Bool.{Bool, true, false, cond}
+use mathlib.Core.Bool.{Bool, false, cond}
 use lib.ListN.{set}
 use Rattle.window.specs.Window.{Win, slid}
 use Rattle.sender.specs.declared.NumberPlace.{NumberPlace}

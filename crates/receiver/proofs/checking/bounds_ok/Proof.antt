@@ -1,6 +1,6 @@
 -- `receiver::checking::bounds_ok` meets its contract: each way out is an instance of a law of Every.
 use Rattle.receiver.specs.Checking.{boundsOk}
-use Rattle.receiver.proofs.Every.{every-fails, every-skip, every-last}
+use Rattle.common.specs.EveryLaws.{every-fails, every-skip, every-last}
 use borrow.Author.Tests.{le-leb, lt-leb}
 use mathlib.Core.Path.{_∙_}
 use Rattle.receiver.proofs.checking.bounds_ok.Statement.{statement}

@@ -1,6 +1,5 @@
--- `receiver::checking::sound` meets its contract: each way out is an instance of a law of Consistency.
-use borrow.Author.Tests.{not-true, not-false}
-use Rattle.receiver.proofs.Consistency.{sound-fails, sound-sized}
+-- `receiver::checking::sound` meets its contract: it asks of the record and of the store's size.
+use Rattle.receiver.proofs.Consistency.{sound-is}
 use borrow.Author.Needs.{needs}
 use Rattle.receiver.proofs.checking.sound.Statement.{statement}
 use Rattle.receiver.proofs.checking.sound.Tie as tie
@@ -8,11 +7,11 @@ use Rattle.receiver.proofs.checking.sound.Tie as tie
 consistent-requires : tie.Need-consistent-requires
 consistent-requires c κs = search needs
 
-returns : tie.Need-returns
-returns c = sound-fails _ _ _ (c .before .consistent .ensures) (not-true _ (c .if1 .taken))
+sized-requires : tie.Need-sized-requires
+sized-requires c κs = search needs
 
-returns-2 : tie.Need-returns-2
-returns-2 c = sound-sized _ _ _ (c .before .consistent .ensures) (not-false _ (c .if1 .left))
+returns : tie.Need-returns
+returns c = sound-is _ _ _ _ (c .before .consistent .ensures) (c .sized .ensures)
 
 pub sound-spec : {M : Type 1} → statement M
-sound-spec = tie.close (tie.spec consistent-requires returns returns-2)
+sound-spec = tie.close (tie.spec consistent-requires sized-requires returns)

@@ -11,7 +11,7 @@ out-of-place-requires : tie.Need-out-of-place-requires
 out-of-place-requires c κs = search needs
 
 returns : tie.Need-returns
-returns c = channel-out _ _ _ _ (c .before .before .widen .ensures) (c .before .out-of-place .ensures) (c .if1 .taken)
+returns c = channel-out _ _ _ _ _ (c .before .before .widen .ensures) (c .before .out-of-place .ensures) (c .if1 .taken)
 
 enum-known-wide : tie.Need-enum-known-wide
 enum-known-wide c = search needs
@@ -20,10 +20,12 @@ enum-told : tie.Need-enum-told
 enum-told c = search needs
 
 returns-2 : tie.Need-returns-2
-returns-2 c = channel-at _ _ _ _ (c .before .before .before .before .before .widen .ensures) (c .before .before .before .before .out-of-place .ensures) _ (c .before .before .before .if1 .left) (c .before .wide .given .1)
+returns-2 c =
+    channel-at _ _ _ _ _ (c .before .before .before .before .before .widen .ensures) (c .before .before .before .before .out-of-place .ensures) _
+    (c .before .before .before .if1 .left) (c .before .wide .given .1)
 
 returns-3 : tie.Need-returns-3
-returns-3 c = channel-below _ _ _ _ (c .before .before .before .before .widen .ensures) (c .before .before .before .out-of-place .ensures) _ (c .enum-told .given .1)
+returns-3 c = channel-below _ _ _ _ _ (c .before .before .before .before .widen .ensures) (c .before .before .before .out-of-place .ensures) _ (c .enum-told .given .1)
 
 pub channel-number-spec : {M : Type 1} → statement M
 channel-number-spec =
