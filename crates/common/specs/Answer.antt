@@ -1,16 +1,17 @@
 -- What the answer of a call that writes stands for: document 01's number, and the lent buffer as the call leaves it.
 use Prim.Native.Nat.{ℕ}
 use mathlib.Core.Bool.{cond}
-use mathlib.Core.List.{List}
+use mathlib.Core.List.{List, [], _∷_}
 use mathlib.Core.Path.{_≡_, refl, ap}
 use lib.ListN.{length}
-use lib.Dec.{eqb}
+use lib.Dec.{eqb, ltb}
 use Rattle.common.specs.declared.Written.{Written}
 use Rattle.common.specs.declared.Written.the-variants.{Refused, Wrote}
 use native.Mathlib.Omega.{arith}
 use borrow.Author.Tests.{ne-eqb}
 use Rattle.common.specs.Put.{putOf}
 use Rattle.common.specs.Laid.{Laid}
+use Rattle.common.specs.Order.{test, first}
 
 -- "0 is accepted. A refusal returns its number"
 abbrev pub numberOf : Written → ℕ
@@ -24,6 +25,10 @@ writtenOf n b = cond (eqb n 0) (Wrote (length b)) (Refused n)
 -- "leaves every lent byte unchanged. An accepted write changes only the bytes it reports"
 unfoldable pub leftOf : ℕ → List ℕ → List ℕ → List ℕ
 leftOf n b out = cond (eqb n 0) (putOf out 0 b) out
+
+-- "14: output buffer too short for this answer", where nothing else is left to refuse it
+unfoldable pub roomAnswer : List ℕ → ℕ → ℕ
+roomAnswer b room = first (test (ltb room (length b)) 14 ∷ [])
 
 -- a law for each way out of a call that writes
 pub written-refused : (n m : ℕ) (b : List ℕ) → n ≡ m → (n ≡ 0 → ⊥) → Refused n ≡ writtenOf m b

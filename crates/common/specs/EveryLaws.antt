@@ -47,6 +47,9 @@ pub every-skip : (b : Bool) (bs : List Bool) → b ≡ true → every bs ≡ eve
 unfolding every
 every-skip b bs h = rw h refl
 
+pub every-first : (b : Bool) (bs : List Bool) → b ≡ true → every (b ∷ bs) ≡ every bs
+every-first b bs h = sym (every-skip b bs h)
+
 pub every-later : (b : Bool) (bs : List Bool) → false ≡ every bs → false ≡ every (b ∷ bs)
 unfolding every
 every-later true bs h = h

@@ -1,12 +1,12 @@
 -- The laws that StaysSound stands on: a datagram goes into both halves or into neither, and each call keeps each half.
-use Prim.Native.Nat.{ℕ, zero, suc, _*_, _%_, _≤_, _<_}
+use Prim.Native.Nat.{ℕ, _*_, _%_, _≤_, _<_}
 use mathlib.Core.Bool.{Bool, true, false, cond}
 use mathlib.Core.List.{List, [], _∷_}
 use mathlib.Core.Logic.{_⊎_, inl, inr, ⊎-elim}
 use mathlib.Core.Path.{_≡_, refl, sym, ap, subst}
 use native.Mathlib.Omega.{arith}
 use lib.Dec.{eqb, ltb}
-use lib.ListN.{length, getD, replicate, length-replicate}
+use lib.ListN.{length, length-replicate}
 use borrow.Author.Tests.{ltb-false, eq-eqb}
 use Rattle.common.specs.EveryLaws.{all-every}
 use Rattle.common.specs.Facts.{clash}
@@ -28,6 +28,7 @@ use Rattle.sender.specs.Acknowledge as sender
 use Rattle.sender.specs.Facts as senderFacts
 use Rattle.sender.specs.SendReady.{sound-facts}
 use Rattle.sender.specs.StaysConsistent.{acknowledge-keeps, sweep-keeps, new-sound, resend-sound}
+use Rattle.window.specs.Places.{always}
 use Rattle.endpoint.specs.Open.{openAnswer}
 use Rattle.endpoint.specs.Receive.{Halves, receiverOf, soundOf, packetAnswer, packetTold, packetOf, readInto, receiveOf}
 use Rattle.endpoint.specs.Calls.{Endpoint, Call, receives, takes, acknowledges, sends, resends, sweeps, sendingOf, callOf}
@@ -99,11 +100,6 @@ opened n c t a =
       shortest = ltb-false t 300 (k .1 .1 .0);
       longest = ltb-false 60000 t (k .1 .1 .1 .0);
     }
-
-always : {A : Type 0} (n i : ℕ) (a : A) → getD (replicate n a) i a ≡ a
-always zero i a = refl
-always (suc n) zero a = refl
-always (suc n) (suc i) a = always n i a
 
 module _ (w cap : ℕ) (lw : 0 < w) (uw : w ≤ cap) (n c t : ℕ) (o : Opened n c t) where
   place : (m : ℕ) → numberAt w (sending.freshOf cap n c t) m ≡ noNumber

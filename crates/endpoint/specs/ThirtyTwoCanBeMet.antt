@@ -7,11 +7,11 @@ use mathlib.Core.Logic.{_⊎_, inl, inr}
 use mathlib.Core.Option.{Option, none, some}
 use mathlib.Core.Path.{_≡_, refl, sym, _∙_, ap, subst}
 use native.Mathlib.Omega.{arith}
-use lib.Dec.{eqb, ltb}
-use lib.ListN.{length, getD, replicate, getD-replicate}
-use borrow.Author.Tests.{ltb-true, eqb-true}
+use lib.Dec.{eqb}
+use lib.ListN.{length, getD, replicate}
+use borrow.Author.Tests.{eqb-true}
 use Rattle.common.specs.Every.{every, allBelow}
-use Rattle.common.specs.EveryLaws.{AllTrue, every-all, all-at}
+use Rattle.common.specs.EveryLaws.{every-all, all-at}
 use Rattle.common.specs.Facts.{clash}
 use Rattle.common.specs.Order.{first}
 use Rattle.numbers.specs.Widen.{widenOf}
@@ -26,12 +26,11 @@ use Rattle.wire.specs.Flags.{dataIn, outside, sixOf, either}
 use Rattle.wire.specs.Frame.{swapped, droppedBy, endOf, framed, prefixFor, padded}
 use Rattle.wire.specs.Layout.{noAck, noDelay, noVector, ackEnd, overheadEnd, delayEnd, aoaEnd, numberEnd, vectorEnd, channelEnd, valuesOf, packetOf, partOf}
 use Rattle.wire.specs.Read.{readOf, readPacket}
-use Rattle.wire.specs.Same.{bodyIn, Bytes}
+use Rattle.wire.specs.Same.{bodyIn}
 use Rattle.wire.specs.Write.{packetBytes, datagramOf}
 use Rattle.receiver.specs.declared.Receiver.{Receiver}
-use Rattle.receiver.specs.Record.{isHeld, empty, holdAt}
 use Rattle.receiver.specs.Packet.{Packet}
-use Rattle.receiver.specs.CanBeMet.{fresh, three-are-a-set}
+use Rattle.receiver.specs.CanBeMet.{fresh, none-held, small, are-bytes, three-are-a-set}
 use Rattle.receiver.specs.AnyOrder.{packetsOf, itemsOf, readyOf}
 use Rattle.receiver.specs.Receive.{onSome, dataNumber, channelNumber, aoaNumber, packetFrom}
 use Rattle.receiver.specs.Determined.{itemOf, inside, markedIn, heldIn, seenBy, hasBy, floorBy, baseBy, endBy, dueBy, determinedOf, blockIn, bodyBy, blocksFrom}
@@ -112,15 +111,6 @@ unfolding tabulate
 map-tabulate zero g f h same = refl
 map-tabulate (suc n) g f h same =
     rw (same 0 (omega arith), map-tabulate n g (λ i. f (suc i)) (λ i. h (suc i)) (λ i l. same (suc i) (omega arith))) refl
-
--- a list of bytes, by a test
-abbrev small : List ℕ → List Bool
-small d = map (λ b. ltb b 256) d
-
-are-bytes : (d : List ℕ) → AllTrue (small d) → Bytes d
-are-bytes [] h i = omega arith
-are-bytes (b ∷ bs) h zero = ltb-true b 256 (h .0)
-are-bytes (b ∷ bs) h (suc i) = are-bytes bs (h .1) i
 
 -- All 32 are bytes, and read as packets of data alone bring what they should.
 
@@ -212,14 +202,6 @@ fits i l =
       channelRange = omega arith;
       aoaFits = aoa-fits (waives i) i l;
     }
-
-none-held : (c : ℕ) → heldIn 32 (fresh .receiver) c ≡ false
-unfolding heldIn
-none-held c = go (inside 32 0 c)
-  where
-    go : (t : Bool) → cond t (isHeld (holdAt 32 (fresh .receiver) c)) false ≡ false
-    go true = ap isHeld (getD-replicate 32 (c % 32) empty empty (omega arith))
-    go false = refl
 
 listed : (d : List ℕ) → In d set32 → (i : ℕ) × (i < 32) × (d ≡ datagram i)
 unfolding set32

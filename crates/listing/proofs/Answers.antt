@@ -9,7 +9,7 @@ use lib.Seq.{take-at}
 use Rattle.common.specs.declared.Written.the-variants.{Refused, Wrote}
 use Rattle.common.specs.Put.{putOf, put-front}
 use Rattle.common.specs.Order.{first}
-use Rattle.common.specs.Answer.{writtenOf, leftOf}
+use Rattle.common.specs.Answer.{writtenOf, leftOf, roomAnswer}
 use Rattle.wire.specs.declared.Reading.{Reading}
 use Rattle.wire.specs.Read.{readOf}
 use Rattle.listing.specs.Parts.{LaidWithin}
@@ -36,7 +36,7 @@ module _ (d : List ℕ) {k n : ℕ} {z e : List ℕ} {r : Reading} (q : r ≡ re
 
   pub lines-short : (out : List ℕ) → length out < n
       → (Refused 14 ≡ writtenOf (answerOf d (length out)) (listingOf d)) × (out ≡ leftOf (answerOf d (length out)) (listingOf d) out)
-  unfolding answerOf first writtenOf leftOf
+  unfolding answerOf roomAnswer first writtenOf leftOf
   lines-short out h =
       let g : length out < length (listingOf d) = omega (arith, listing-end) in
       let t = lt-ltb (length out) (length (listingOf d)) g in
@@ -44,7 +44,7 @@ module _ (d : List ℕ) {k n : ℕ} {z e : List ℕ} {r : Reading} (q : r ≡ re
 
   pub lines-fit : (out : List ℕ) {now : List ℕ} → n ≤ length out → now ≡ putOf out 0 (take n e)
       → (Wrote n ≡ writtenOf (answerOf d (length out)) (listingOf d)) × (now ≡ leftOf (answerOf d (length out)) (listingOf d) out)
-  unfolding answerOf first writtenOf leftOf
+  unfolding answerOf roomAnswer first writtenOf leftOf
   lines-fit out h p =
       let g : length (listingOf d) ≤ length out = omega (arith, listing-end) in
       let t = le-ltb (length out) (length (listingOf d)) g in

@@ -9,7 +9,7 @@ use lib.ListN.{length}
 use lib.Dec.{ltb}
 use Rattle.common.specs.declared.Written.the-variants.{Wrote}
 use Rattle.common.specs.Order.{test, first}
-use Rattle.common.specs.Answer.{writtenOf}
+use Rattle.common.specs.Answer.{writtenOf, roomAnswer}
 use Rattle.listing.specs.Lines.{listingOf, answerOf}
 
 -- by whether the room is too small
@@ -20,5 +20,5 @@ by-room k room b false e w = let l : k ≡ length b = cc in omega (arith, ltb-fa
 
 -- what was written fits
 pub written-fits : (k room : ℕ) (d : List ℕ) → Wrote k ≡ writtenOf (answerOf d room) (listingOf d) → k ≤ room
-unfolding answerOf
+unfolding answerOf roomAnswer
 written-fits k room d w = by-room k room (listingOf d) (ltb room (length (listingOf d))) refl w

@@ -5,10 +5,7 @@ use Prim.Native.Nat.{ℕ}
 use Prim.Native.String.{String}
 use mathlib.Core.Bool.{Bool, cond}
 use mathlib.Core.List.{List, [], _∷_, _++_}
-use lib.ListN.{length}
-use lib.Dec.{ltb}
 use Rattle.common.specs.Put.{joined}
-use Rattle.common.specs.Order.{test, first}
 use Rattle.text.specs.Ascii.{ascii}
 use Rattle.text.specs.Decimal.{decimalOf}
 use Rattle.wire.specs.declared.Ack.{Ack}
@@ -19,6 +16,7 @@ use Rattle.wire.specs.declared.Reading.{Reading}
 use Rattle.wire.specs.declared.Reading.the-variants.{Refused, Dummy, Read}
 use Rattle.wire.specs.Flags.{ackIn, dataIn, vectorIn, aoaIn, overheadIn, delayIn}
 use Rattle.wire.specs.Read.{numberOf, readOf}
+use Rattle.common.specs.Answer.{roomAnswer}
 
 -- a line: key, `=`, value, newline
 abbrev pub line : String → List ℕ → List ℕ
@@ -74,4 +72,4 @@ listingOf d = linesFor (readOf d)
 
 -- 14 exactly if the output buffer is too short
 unfoldable pub answerOf : List ℕ → ℕ → ℕ
-answerOf d room = first (test (ltb room (length (listingOf d))) 14 ∷ [])
+answerOf d room = roomAnswer (listingOf d) room

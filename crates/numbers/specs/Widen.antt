@@ -2,6 +2,7 @@
 -- lies from R − 32,768 to R + 32,767." Nearest.antt shows that this is what widenOf gives, and that nothing else would do.
 use Prim.Native.Nat.{ℕ, _+_, _-_, _%_}
 use mathlib.Core.Bool.{Bool, true, cond}
+use mathlib.Core.Path.{_≡_, refl}
 use lib.Dec.{ltb, leb}
 use Rattle.numbers.specs.declared.Widened.{Widened}
 use Rattle.numbers.specs.declared.Widened.the-variants.{At, Below}
@@ -39,3 +40,12 @@ fromData (DataBelow m) = Below m
 abbrev pub fromChannel : WidenedChannel → Widened
 fromChannel (ChannelAt n) = At (n .0)
 fromChannel (ChannelBelow m) = Below m
+
+-- A number of a kind, and the number that it is.
+pub from-data : (a : Widened) → fromData (dataOf a) ≡ a
+from-data (At n) = refl
+from-data (Below m) = refl
+
+pub from-channel : (a : Widened) → fromChannel (channelOf a) ≡ a
+from-channel (At n) = refl
+from-channel (Below m) = refl

@@ -8,7 +8,7 @@ use lib.Dec.{eqb, leb, ltb}
 use lib.ListN.{length, take, length-append}
 use borrow.Author.Tests.{le-leb, lt-leb, le-ltb, eq-eqb, ne-eqb, ltb-true, ltb-false}
 use Rattle.common.specs.Order.{first-here, first-skip}
-use Rattle.common.specs.Answer.{writtenOf, leftOf, written-refused, left-refused}
+use Rattle.common.specs.Answer.{writtenOf, leftOf, written-refused, left-refused, roomAnswer}
 use Rattle.common.specs.declared.Written.{Written}
 use Rattle.common.specs.declared.Written.the-variants.{Refused}
 use Rattle.vector.specs.Rule.{vectorOf}
@@ -21,7 +21,6 @@ use Rattle.wire.specs.Round.Framing.{framed-length}
 use Rattle.receiver.specs.declared.Receiver.{Receiver}
 use Rattle.receiver.specs.Acknowledge.{statesOf, allThere, ackValues, vectorValues, acknowledgementOf, acknowledgeAnswer}
 use Rattle.receiver.specs.Consistent.{consistentOf}
-use Rattle.receiver.specs.Room.{roomAnswer}
 use Rattle.receiver.proofs.Consistency.{facts}
 use Rattle.receiver.proofs.Vectors.{Coded}
 
@@ -34,7 +33,7 @@ pub record Plain (v : Values) (a x : ℕ) : Type 0 where
   pub vector : both (vectorIn (v .flags)) (vectorWide (v .vector) x) ≡ false
 
 room-decides : (v : Values) (a x b : List ℕ) (room : ℕ) → Plain v (length a) (length x) → length (datagramOf v a x b) ≤ 1232
-    → roomAnswer room (datagramOf v a x b) ≡ writeAnswer v a x b room
+    → roomAnswer (datagramOf v a x b) room ≡ writeAnswer v a x b room
 unfolding writeAnswer roomAnswer
 room-decides v a x b room f l =
     first-skip _ _ _ (le-ltb 1232 (length (datagramOf v a x b)) l) ∙ first-skip _ _ _ (f .vector) ∙ first-skip _ _ _ (f .ack) ∙ first-skip _ _ _ (f .window)
@@ -42,7 +41,7 @@ room-decides v a x b room f l =
 
 -- an answer and a buffer that are what writing the datagram d answers and leaves
 abbrev pub Writes : List ℕ → List ℕ → Written → List ℕ → Type 0
-Writes d out x left = (x ≡ writtenOf (roomAnswer (length out) d) d) × (left ≡ leftOf (roomAnswer (length out) d) d out)
+Writes d out x left = (x ≡ writtenOf (roomAnswer d (length out)) d) × (left ≡ leftOf (roomAnswer d (length out)) d out)
 
 -- AN ACK
 
@@ -59,7 +58,7 @@ ack-short r stamp gap =
     omega (arith, framed-length (prefixFor p) p)
 
 pub ack-decides : (r : Receiver) (stamp gap room : ℕ)
-    → roomAnswer room (datagramOf (ackValues r stamp gap) [] [] []) ≡ writeAnswer (ackValues r stamp gap) [] [] [] room
+    → roomAnswer (datagramOf (ackValues r stamp gap) [] [] []) room ≡ writeAnswer (ackValues r stamp gap) [] [] [] room
 ack-decides r stamp gap room = room-decides (ackValues r stamp gap) [] [] [] room (ack-plain r stamp gap) (ack-short r stamp gap)
 
 pub ack-written : (r : Receiver) (stamp gap : ℕ) (out : List ℕ) (x : Written) (left : List ℕ)
@@ -107,7 +106,7 @@ module _ (r : Receiver) (b : List ℕ) (l : length b ≤ 32) where
       let p : List ℕ = packetBytes (sizedValues r (length b)) [] b [] in
       omega (arith, framed-length (prefixFor p) p, packet-length)
 
-  vector-decides : (room : ℕ) → roomAnswer room (datagramOf (sizedValues r (length b)) [] b []) ≡ writeAnswer (sizedValues r (length b)) [] b [] room
+  vector-decides : (room : ℕ) → roomAnswer (datagramOf (sizedValues r (length b)) [] b []) room ≡ writeAnswer (sizedValues r (length b)) [] b [] room
   vector-decides room = room-decides (sizedValues r (length b)) [] b [] room vector-plain packet-short
 
 pub vector-written : (r : Receiver) (coded : List ℕ) (k : ℕ) (out : List ℕ) (x : Written) (left : List ℕ) → Coded r coded k
@@ -159,10 +158,10 @@ module _ (w cap : ℕ) (r : Receiver) (stamp gap : ℕ) (out : List ℕ) (b : Bo
         → cond (allThere r) (eqb (r .base .0) (r .firstdata .0)) false ≡ false → Writes d out x left → Acknowledges w cap r stamp gap out x left
     unfolding acknowledgeAnswer roomAnswer
     answered d x left e t y =
-        let a : roomAnswer (length out) (acknowledgementOf w r stamp gap) ≡ acknowledgeAnswer w cap r stamp gap (length out) =
+        let a : roomAnswer (acknowledgementOf w r stamp gap) (length out) ≡ acknowledgeAnswer w cap r stamp gap (length out) =
         first-skip _ _ _ t ∙ first-skip _ _ _ (ap not (sym consistent ∙ h)) in (
-          y .0 ∙ ap (λ (o : List ℕ). writtenOf (roomAnswer (length out) o) o) (sym e) ∙ ap (λ (n : ℕ). writtenOf n (acknowledgementOf w r stamp gap)) a,
-          y .1 ∙ ap (λ (o : List ℕ). leftOf (roomAnswer (length out) o) o out) (sym e) ∙ ap (λ (n : ℕ). leftOf n (acknowledgementOf w r stamp gap) out) a,
+          y .0 ∙ ap (λ (o : List ℕ). writtenOf (roomAnswer o (length out)) o) (sym e) ∙ ap (λ (n : ℕ). writtenOf n (acknowledgementOf w r stamp gap)) a,
+          y .1 ∙ ap (λ (o : List ℕ). leftOf (roomAnswer o (length out)) o out) (sym e) ∙ ap (λ (n : ℕ). leftOf n (acknowledgementOf w r stamp gap) out) a,
         )
 
     pub acknowledge-all : (x : Written) (left : List ℕ) → r .end .0 ≤ r .base .0 → (r .base .0 ≡ r .firstdata .0 → ⊥)

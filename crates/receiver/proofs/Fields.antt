@@ -10,21 +10,13 @@ use Rattle.numbers.specs.declared.WidenedData.{WidenedData}
 use Rattle.numbers.specs.declared.WidenedData.the-variants.{At as DataAt, Below as DataBelow}
 use Rattle.numbers.specs.declared.WidenedChannel.{WidenedChannel}
 use Rattle.numbers.specs.declared.WidenedChannel.the-variants.{At as ChannelAt, Below as ChannelBelow}
-use Rattle.numbers.specs.Widen.{widenOf, outOf, dataOf, channelOf, fromData, fromChannel}
+use Rattle.numbers.specs.Widen.{widenOf, outOf, dataOf, channelOf, fromData, fromChannel, from-data, from-channel}
 use Rattle.receiver.specs.declared.packet.Found.{Found}
 use Rattle.receiver.specs.declared.packet.Found.the-variants.{Out, At}
 use Rattle.receiver.specs.Receive.{inPlace, onSome}
 use Rattle.receiver.specs.Judge.{foundOf, waivedAt, aoaOf}
 
 -- THE NUMBER THAT A FIELD STANDS FOR
-
-from-data : (x : Widened) → fromData (dataOf x) ≡ x
-from-data (AtNumber n) = refl
-from-data (Below m) = refl
-
-from-channel : (x : Widened) → fromChannel (channelOf x) ≡ x
-from-channel (AtNumber n) = refl
-from-channel (Below m) = refl
 
 place-out : (first : ℕ) (x : Widened) → outOf first x ≡ true → Out ≡ foundOf (inPlace first x)
 unfolding foundOf

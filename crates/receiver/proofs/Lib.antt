@@ -4,7 +4,6 @@ mod Consistency
 mod Moving
 mod Fields
 mod Judging
-mod Block
 mod Told
 mod Applying
 mod Receiving

@@ -15,16 +15,12 @@ use Rattle.common.specs.declared.Written.{Written}
 use Rattle.common.specs.declared.Written.the-variants.{Refused, Wrote}
 use Rattle.vector.specs.Rule.{vectorOf, answerOf}
 use Rattle.vector.specs.Laws.{vector-short, write-done}
+use Rattle.receiver.specs.AcknowledgeLaws.{states-length}
 use Rattle.receiver.specs.declared.Receiver.{Receiver}
 use Rattle.receiver.specs.Record.{isMarked, markAt}
 use Rattle.receiver.specs.Consistent.{consistentOf}
 use Rattle.receiver.specs.Acknowledge.{statesFrom, statesOf}
 use Rattle.receiver.proofs.Consistency.{facts}
-
-pub states-length : (w : ℕ) (r : Receiver) (n k : ℕ) → length (statesFrom w r n k) ≡ k
-unfolding statesFrom
-states-length w r n zero = refl
-states-length w r n (suc k) = ap suc (states-length w r (n + 1) k)
 
 -- one number more
 states-more : (w : ℕ) (r : Receiver) (n k : ℕ) → statesFrom w r n (suc k) ≡ statesFrom w r n k ++ (isMarked (markAt w r (n + k)) ∷ [])

@@ -17,6 +17,7 @@ use Rattle.wire.specs.Round.Framing.{swapped-length}
 use Rattle.wire.specs.Round.Found.{Found, found, read-found}
 
 pub record Block (d : List ℕ) (p : Packet) : Type 0 where
+  pub wide : 8 ≤ length d
   pub place : 7 ≤ p .body
   pub inside : p .body + p .bytes ≤ length d
   pub short : p .bytes ≤ 1225
@@ -38,6 +39,7 @@ found-block d k h =
     let last = k .inside .ends in
     rw h
     (record {
+      wide = k .long;
       place = seven;
       inside = omega arith;
       short = omega (arith, k .short);

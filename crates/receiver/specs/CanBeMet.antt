@@ -6,7 +6,7 @@ use mathlib.Core.Option.{none, some}
 use mathlib.Core.Path.{_≡_, refl, sym, _∙_, ap, subst}
 use native.Mathlib.Omega.{arith}
 use lib.Dec.{eqb, ltb}
-use lib.ListN.{getD, replicate, length-replicate}
+use lib.ListN.{replicate, length-replicate}
 use borrow.Author.Tests.{ltb-true}
 use Rattle.common.specs.Every.{every}
 use Rattle.common.specs.EveryLaws.{AllTrue, every-all}
@@ -21,6 +21,7 @@ use Rattle.wire.specs.Layout.{ackEnd, overheadEnd, delayEnd, aoaEnd, numberEnd,
 use Rattle.wire.specs.Read.{readOf, readPacket}
 use Rattle.wire.specs.Same.{bodyIn, Bytes}
 use Rattle.wire.specs.Round.Found.{found}
+use Rattle.window.specs.Places.{always}
 use Rattle.receiver.specs.Record.{State, isMarked, isHeld, empty, markAt, holdAt}
 use Rattle.receiver.specs.Fresh.{freshOf}
 use Rattle.receiver.specs.Packet.{Packet}
@@ -29,11 +30,6 @@ use Rattle.receiver.specs.Determined.{inside, heldIn}
 use Rattle.receiver.specs.Facts.{Facts, facts-sound}
 use Rattle.receiver.specs.Set.{Readable, Fits, Set, packetAt}
 use Rattle.receiver.specs.Order.Again.{packet-at}
-
-always : {A : Type 0} (n i : ℕ) (a : A) → getD (replicate n a) i a ≡ a
-always zero i a = refl
-always (suc n) zero a = refl
-always (suc n) (suc i) a = always n i a
 
 pub fresh-facts : (w cap n c : ℕ) → n ≤ 65535 → c ≤ 65535 → Facts w cap (freshOf cap n c)
 fresh-facts w cap n c ln lc =
@@ -63,7 +59,7 @@ fresh-facts w cap n c ln lc =
 abbrev pub fresh : State
 fresh = record { receiver = freshOf 32 0 0; store = replicate (32 * 1225) 0 }
 
-none-held : (c : ℕ) → heldIn 32 (fresh .receiver) c ≡ false
+pub none-held : (c : ℕ) → heldIn 32 (fresh .receiver) c ≡ false
 unfolding heldIn
 none-held c = go (inside 32 0 c)
   where
@@ -96,11 +92,11 @@ abbrev last : Packet
 last = record { number = 31; channel = 3; aoa = some 0; block = 0x07 ∷ [] }
 
 -- a list of bytes, by a test
-abbrev small : List ℕ → List Bool
+abbrev pub small : List ℕ → List Bool
 small [] = []
 small (b ∷ bs) = ltb b 256 ∷ small bs
 
-are-bytes : (d : List ℕ) → AllTrue (small d) → Bytes d
+pub are-bytes : (d : List ℕ) → AllTrue (small d) → Bytes d
 are-bytes [] h i = omega arith
 are-bytes (b ∷ bs) h zero = ltb-true b 256 (h .0)
 are-bytes (b ∷ bs) h (suc i) = are-bytes bs (h .1) i

@@ -3,7 +3,7 @@ use Prim.Native.Nat.{ℕ, _+_, _-_, _*_, _≤_, _<_}
 use mathlib.Core.Bool.{Bool, true, false, cond}
 use mathlib.Core.List.{List, [], _∷_}
 use mathlib.Core.Logic.{_⊎_, inl, inr, ⊎-elim}
-use mathlib.Core.Path.{_≡_, refl, ap, subst}
+use mathlib.Core.Path.{_≡_, refl, ap}
 use native.Mathlib.Omega.{arith}
 use lib.Dec.{eqb, leb, ltb}
 use lib.ListN.{length, getD, List·getD-eq-default}
@@ -11,6 +11,7 @@ use borrow.Author.Tests.{lt-ltb, ltb-true, le-leb, leb-true, eq-eqb, eqb-true, n
 use Rattle.common.specs.Every.{every, allBelow, implies}
 use Rattle.common.specs.EveryLaws.{every-all, all-every, all-at, all-from, implied, imply}
 use Rattle.common.specs.Facts.{lt-or-ge, clash}
+use Rattle.window.specs.Places.{at-number}
 use Rattle.receiver.specs.declared.Hold.{Hold}
 use Rattle.receiver.specs.declared.Receiver.{Receiver}
 use Rattle.receiver.specs.Record.{highest, isMarked, isHeld, empty, markAt, holdAt}
@@ -38,10 +39,6 @@ pub record Facts (w cap : ℕ) (r : Receiver) : Type 0 where
   pub notHeld : (c : ℕ) → r .due .0 ≤ c → c < r .due .0 + w → isHeld (holdAt w r c) ≡ false → holdAt w r c ≡ empty
   pub marksSpare : (i : ℕ) → w ≤ i → getD (r .marks) i 0 ≡ 0
   pub holdsSpare : (i : ℕ) → w ≤ i → getD (r .holds) i empty ≡ empty
-
--- A fact on every offset from b is one on every number of the window from b on.
-at-offset : (P : ℕ → Type 0) (b w n : ℕ) → b ≤ n → n < b + w → ((i : ℕ) → i < w → P (b + i)) → P n
-at-offset P b w n l u f = subst P (let e : b + (n - b) ≡ n = omega arith in e) (f (n - b) (omega arith))
 
 is-empty : (h : Hold) → h .held ≡ 0 → h .length ≡ 0 → h ≡ empty
 is-empty h p q = λ i. record { held = p i; length = q i }
@@ -170,12 +167,12 @@ consistent-facts w cap r h =
     marks : (n : ℕ) → r .base .0 ≤ n → n < r .base .0 + w → allBelow (markOk w r) w ≡ true
         → (markAt w r n ≤ 1) × (isMarked (markAt w r n) ≡ true → n < r .end .0)
     marks n l u a =
-        at-offset (λ (n : ℕ). (markAt w r n ≤ 1) × (isMarked (markAt w r n) ≡ true → n < r .end .0)) (r .base .0) w n l u
-        (λ i m. mark-says w r i (all-at (markOk w r) w a i m))
+        at-number (λ (n : ℕ). (markAt w r n ≤ 1) × (isMarked (markAt w r n) ≡ true → n < r .end .0)) (r .base .0) w
+        (λ i m. mark-says w r i (all-at (markOk w r) w a i m)) n l u
 
     holds : (c : ℕ) → r .due .0 ≤ c → c < r .due .0 + w → allBelow (holdOk w r) w ≡ true → Holds (holdAt w r c) c
     holds c l u a =
-        at-offset (λ (c : ℕ). Holds (holdAt w r c) c) (r .due .0) w c l u (λ i m. hold-says w r i (all-at (holdOk w r) w a i m))
+        at-number (λ (c : ℕ). Holds (holdAt w r c) c) (r .due .0) w (λ i m. hold-says w r i (all-at (holdOk w r) w a i m)) c l u
 
 -- The facts pass the tests.
 pub facts-consistent : (w cap : ℕ) (r : Receiver) → Facts w cap r → consistentOf w cap r ≡ true

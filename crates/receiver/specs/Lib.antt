@@ -19,7 +19,6 @@ pub mod Checking
 pub mod Marks
 pub mod Judge
 pub mod Judged
-pub mod Room
 pub mod AcknowledgeLaws
 pub mod Facts
 pub mod Blocks

@@ -4,12 +4,11 @@ ghost use mathlib.Core.Bool.{true};
 ghost use mathlib.Core.List.{[]};
 ghost use Prim.Native.Nat.{_≤_, _<_};
 ghost use lib.ListN.{length};
-ghost use Rattle.common.specs.Answer.{writtenOf, leftOf};
+ghost use Rattle.common.specs.Answer.{roomAnswer, writtenOf, leftOf};
 ghost use Rattle.vector.specs.Rule.{vectorOf};
 ghost use Rattle.wire.specs.Write.{datagramOf};
 ghost use Rattle.receiver.specs.Consistent.{consistentOf};
 ghost use Rattle.receiver.specs.Acknowledge.{statesOf, ackValues, vectorValues};
-ghost use Rattle.receiver.specs.Room.{roomAnswer};
 use crate::Receiver;
 use common::Written;
 use wire::Ack;
@@ -28,9 +27,9 @@ const LOGWINDOW: u8 = 5;
 // Writes an ACK for the number before base.
 pub fn write_ack(r: Receiver, stamp: u32, gap: u8, out: &mut [u8]) -> Written
     requires { ⌜ 1 ≤ r .base .0 ⌝ }
-    ensures answer { λ x. ⌜ x ≡ writtenOf (roomAnswer (length (now (out .entry))) (datagramOf (ackValues r stamp gap) [] [] [])) (datagramOf (ackValues r stamp gap) [] [] []) ⌝ }
+    ensures answer { λ x. ⌜ x ≡ writtenOf (roomAnswer (datagramOf (ackValues r stamp gap) [] [] []) (length (now (out .entry)))) (datagramOf (ackValues r stamp gap) [] [] []) ⌝ }
     ensures bytes { λ x. ⌜ now (out .exit)
-        ≡ leftOf (roomAnswer (length (now (out .entry))) (datagramOf (ackValues r stamp gap) [] [] [])) (datagramOf (ackValues r stamp gap) [] [] []) (now (out .entry)) ⌝ }
+        ≡ leftOf (roomAnswer (datagramOf (ackValues r stamp gap) [] [] []) (length (now (out .entry)))) (datagramOf (ackValues r stamp gap) [] [] []) (now (out .entry)) ⌝ }
 {
     let number = ((r.base.0 - 1) % 65536) as u16;
     let values = Values {
@@ -66,9 +65,9 @@ pub fn write_ack(r: Receiver, stamp: u32, gap: u8, out: &mut [u8]) -> Written
 pub fn write_vector(r: Receiver, out: &mut [u8]) -> Written
     requires { ⌜ consistentOf 32 32 r ≡ true ⌝ }
     requires { ⌜ r .base .0 < r .end .0 ⌝ }
-    ensures answer { λ x. ⌜ x ≡ writtenOf (roomAnswer (length (now (out .entry))) (datagramOf (vectorValues 32 r) [] (vectorOf (statesOf 32 r)) []))
+    ensures answer { λ x. ⌜ x ≡ writtenOf (roomAnswer (datagramOf (vectorValues 32 r) [] (vectorOf (statesOf 32 r)) []) (length (now (out .entry))))
         (datagramOf (vectorValues 32 r) [] (vectorOf (statesOf 32 r)) []) ⌝ }
-    ensures bytes { λ x. ⌜ now (out .exit) ≡ leftOf (roomAnswer (length (now (out .entry))) (datagramOf (vectorValues 32 r) [] (vectorOf (statesOf 32 r)) []))
+    ensures bytes { λ x. ⌜ now (out .exit) ≡ leftOf (roomAnswer (datagramOf (vectorValues 32 r) [] (vectorOf (statesOf 32 r)) []) (length (now (out .entry))))
         (datagramOf (vectorValues 32 r) [] (vectorOf (statesOf 32 r)) []) (now (out .entry)) ⌝ }
 {
     let from = r.base.0;

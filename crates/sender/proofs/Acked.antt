@@ -12,7 +12,7 @@ use Rattle.numbers.specs.declared.DataNumber.{DataNumber}
 use Rattle.numbers.specs.declared.Widened.{Widened}
 use Rattle.numbers.specs.declared.Widened.the-variants.{At, Below}
 use Rattle.numbers.specs.declared.WidenedData.the-variants.{At as DataAt, Below as DataBelow}
-use Rattle.numbers.specs.Widen.{widenOf, backOf, dataOf, fromData}
+use Rattle.numbers.specs.Widen.{widenOf, backOf, dataOf, fromData, from-data}
 use Rattle.vector.specs.Says.{statesOf}
 use Rattle.wire.specs.declared.Packet.{Packet}
 use Rattle.wire.specs.declared.Reading.the-variants.{Refused, Dummy, Read}
@@ -26,11 +26,6 @@ use Rattle.sender.specs.Chosen.{chosenBy}
 use Rattle.sender.specs.Acknowledge.{acknowledging, toldBy, toldAnswer, toldOf, readAnswer, readInto, acknowledgeAnswer, acknowledgeOf}
 use Rattle.sender.specs.Walk.{walkOf, nothing, judgeUpTo, fromWalk, judgeListed, appliedOf}
 use Rattle.sender.proofs.Passing.{consistent-passes, range-facts}
-
--- a number of a kind, and the number that it is
-from-data : (a : Widened) → fromData (dataOf a) ≡ a
-from-data (At n) = refl
-from-data (Below m) = refl
 
 data-at : (a : Widened) (n : DataNumber) → DataAt n ≡ dataOf a → a ≡ At (n .0)
 data-at a n h = sym (ap fromData h ∙ from-data a)

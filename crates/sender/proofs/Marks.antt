@@ -1,5 +1,5 @@
 -- The marks by which a walk over the numbers tells how many pending numbers carry each block.
-use Prim.Native.Nat.{ℕ, zero, suc, _+_, _-_, _%_, _≤_, _<_}
+use Prim.Native.Nat.{ℕ, _+_, _-_, _%_, _≤_, _<_}
 use mathlib.Core.Bool.{Bool, true, false, cond}
 use mathlib.Core.List.{List, [], _∷_}
 use mathlib.Core.Logic.{⊎-elim}
@@ -12,7 +12,7 @@ use lib.Dec.{leb, eqb}
 use borrow.Author.Tests.{lt-leb, leb-true, ltb-true, leb-false, eqb-true, eqb-false, eq-eqb, ne-eqb}
 use Rattle.common.specs.Every.{every, allBelow, countBelow}
 use Rattle.common.specs.Facts.{bool, clash, not-so}
-use Rattle.window.specs.Places.{place-same}
+use Rattle.window.specs.Places.{place-same, always}
 use Rattle.sender.specs.declared.NumberPlace.{NumberPlace}
 use Rattle.sender.specs.declared.BlockPlace.{BlockPlace}
 use Rattle.sender.specs.declared.Sender.{Sender}
@@ -55,16 +55,11 @@ pub record Marked (s : Sender) (marks : List Bool) (i : ℕ) : Type 0 where
   pub size : length marks ≡ 32
   pub counts : (c : ℕ) → s .channellow .0 ≤ c → c < s .channellow .0 + 32 → one (getD marks (c % 32) false) ≡ countBelow (carries 32 s c) i
 
-getD-replicate : (n i : ℕ) → getD (replicate n false) i false ≡ false
-getD-replicate zero i = refl
-getD-replicate (suc n) zero = refl
-getD-replicate (suc n) (suc i) = getD-replicate n i
-
 pub mark-none : (s : Sender) → Marked s (replicate 32 false) 0
 mark-none s =
     record {
       size = length-replicate 32 false;
-      counts = λ c l u. ap one (getD-replicate 32 (c % 32)) ∙ sym (count-none (carries 32 s c));
+      counts = λ c l u. ap one (always 32 (c % 32) false) ∙ sym (count-none (carries 32 s c));
     }
 
 -- the i-th number from low on, and the place of its block

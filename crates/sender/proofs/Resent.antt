@@ -11,7 +11,7 @@ use lib.Dec.{leb}
 use borrow.Author.Tests.{lt-ltb, le-ltb, le-leb, lt-leb, leb-true, eq-eqb, ne-eqb}
 use Rattle.common.specs.declared.Written.{Written}
 use Rattle.common.specs.declared.Written.the-variants.{Refused, Wrote}
-use Rattle.common.specs.Answer.{writtenOf, leftOf, written-refused, left-refused}
+use Rattle.common.specs.Answer.{writtenOf, leftOf, written-refused, left-refused, roomAnswer}
 use Rattle.common.specs.Choice.{unless}
 use Rattle.common.specs.Every.{every}
 use Rattle.common.specs.EveryLaws.{all-at, every-at}
@@ -23,7 +23,7 @@ use Rattle.sender.specs.declared.sending.Lowest.{Lowest}
 use Rattle.sender.specs.declared.sending.Lowest.the-variants.{Nothing, Block}
 use Rattle.sender.specs.Record.{State, isWaiting, isAcknowledged, isInFlight, blockAt, contents}
 use Rattle.sender.specs.Consistent.{consistentOf, soundOf, blockFits, blockOk, oneCarrier, zeroBlock}
-use Rattle.sender.specs.Send.{dataBytes, roomAnswer, sentOf, waitingFrom, lowestWaiting, isNone, resendDatagram, resendAnswer, resendOf}
+use Rattle.sender.specs.Send.{dataBytes, sentOf, waitingFrom, lowestWaiting, isNone, resendDatagram, resendAnswer, resendOf}
 use Rattle.sender.specs.Lowest.{lowestOf}
 use Rattle.sender.proofs.Passing.{consistent-passes, unsized, sound-as}
 use Rattle.sender.proofs.Sent.{sound-facts, refused-is, wrote-is}

@@ -9,14 +9,14 @@ use lib.Dec.{eqb, leb, ltb}
 use borrow.Author.Tests.{lt-ltb, le-ltb, eqb-true, eqb-false, eq-eqb, ne-eqb}
 use Rattle.common.specs.declared.Written.{Written}
 use Rattle.common.specs.declared.Written.the-variants.{Refused, Wrote}
-use Rattle.common.specs.Answer.{writtenOf, leftOf, numberOf, written-refused, left-refused}
+use Rattle.common.specs.Answer.{writtenOf, leftOf, numberOf, written-refused, left-refused, roomAnswer}
 use Rattle.common.specs.Choice.{unless}
 use Rattle.common.specs.Order.{first-here, first-skip}
 use Rattle.common.specs.Put.{putOf}
 use Rattle.sender.specs.declared.Sender.{Sender}
 use Rattle.sender.specs.Record.{highest, State}
 use Rattle.sender.specs.Consistent.{consistentOf, soundOf}
-use Rattle.sender.specs.Send.{roomAnswer, sentOf, newAnswer, newDatagram, newOf}
+use Rattle.sender.specs.Send.{sentOf, newAnswer, newDatagram, newOf}
 use Rattle.common.specs.EveryLaws.{every-at}
 use Rattle.sender.proofs.Passing.{Range, consistent-passes, range-facts, unsized, sound-as}
 

@@ -1,5 +1,5 @@
 -- A judged acknowledgement answers as what it tells, and applied it gives the record that this names.
-use Prim.Native.Nat.{ℕ, zero, suc, _+_, _-_, _%_, _≤_, _<_}
+use Prim.Native.Nat.{ℕ, _+_, _-_, _%_, _≤_, _<_}
 use mathlib.Core.Bool.{Bool, true, false, cond}
 use mathlib.Core.List.{List, [], _∷_}
 use mathlib.Core.Logic.{⊎-elim}
@@ -23,6 +23,7 @@ use Rattle.wire.specs.Round.Framing.{swapped-length}
 use Rattle.numbers.specs.declared.Widened.{Widened}
 use Rattle.numbers.specs.declared.Widened.the-variants.{At, Below}
 use Rattle.vector.specs.Says.{statesOf, names}
+use Rattle.window.specs.Places.{always}
 use Rattle.sender.specs.declared.Sender.{Sender}
 use Rattle.sender.specs.declared.acknowledging.Judged.{Judged}
 use Rattle.sender.specs.Consistent.{consistentOf}
@@ -38,14 +39,9 @@ pub record Right (s : Sender) (t : Told) (j : Judged) : Type 0 where
   pub answer : j .answer ≡ toldAnswer s t
   pub applied : appliedOf 32 s j ≡ toldOf 32 s t
 
-clear : (n i : ℕ) → getD (replicate n false) i false ≡ false
-clear zero i = refl
-clear (suc n) zero = refl
-clear (suc n) (suc i) = clear n i
-
 chosen-below : (upto n : ℕ) → chosenBy 32 (replicate 32 false) upto n ≡ ltb n upto
 unfolding chosenBy
-chosen-below upto n = rw (clear 32 (n % 32)) refl
+chosen-below upto n = rw (always 32 (n % 32) false) refl
 
 up-to : (m n : ℕ) → chosenBy 32 (replicate 32 false) (m + 1) n ≡ leb n m
 up-to m n =
@@ -101,7 +97,7 @@ walk-chooses s m v h un n l u =
     chosen-flag (walkOf 32 (statesOf v) m (s .next .0) (s .low .0) (replicate 32 false) .flags) n
     ∙ walk-flags (statesOf v) m (s .next .0) (s .low .0) (replicate 32 false) (length-replicate 32 false)
     (range-facts (s .firstdata .0) (s .low .0) (s .next .0) (consistent-passes s h .range) .room) un n l u
-    ∙ ap (λ (b : Bool). cond b true (stateAt (statesOf v) m n)) (clear 32 (n % 32))
+    ∙ ap (λ (b : Bool). cond b true (stateAt (statesOf v) m n)) (always 32 (n % 32) false)
 
 pub listed-right : (s : Sender) (a : Widened) (v : List ℕ) → consistentOf 32 32 s ≡ true → Right s (listed a v) (judgeListed 32 (s .firstdata .0) (s .low .0) (s .next .0) a v)
 unfolding toldAnswer toldOf toldNames appliedOf judgeListed fromWalk acknowledgedOf first

@@ -6,21 +6,17 @@ use mathlib.Core.List.{List, [], _∷_, _++_}
 use mathlib.Core.Path.{_≡_, refl, sym, _∙_, ap}
 use native.Mathlib.Omega.{arith}
 use native.Mathlib.Numerals.{add-one}
-use lib.ListN.{length, getD, set, drop, length-drop, drop-of-length-le}
-use lib.Seq.{drop-cons, getD-take, getD-drop, length-take-le}
+use lib.ListN.{length, getD, set, drop, drop-of-length-le}
+use lib.Seq.{drop-cons, getD-take, getD-drop}
 use lib.Dec.{leb}
 use Rattle.vector.specs.Says.{saysOf, statesIn, statesOf}
 use Rattle.wire.specs.Frame.{byteAt, swapped}
 use Rattle.wire.specs.Layout.{partOf}
-use Rattle.wire.specs.Round.Framing.{swapped-length}
+use Rattle.wire.specs.Round.Framing.{part-length}
 use Rattle.sender.specs.declared.acknowledging.Walked.{Walked}
 use Rattle.sender.specs.Walk.{walkOf}
 
 -- the vector's bytes where they stand in the datagram
-pub part-length : (d : List ℕ) (at size : ℕ) → at + size ≤ length d → length (partOf d at size) ≡ size
-unfolding partOf
-part-length d at size h = length-take-le size (drop at (swapped d)) (omega (arith, length-drop at (swapped d), swapped-length d))
-
 part-at : (d : List ℕ) (at size j : ℕ) → j < size → getD (partOf d at size) j 0 ≡ byteAt (swapped d) (at + j)
 unfolding partOf
 part-at d at size j h = getD-take size (drop at (swapped d)) j 0 h ∙ getD-drop at (swapped d) j 0

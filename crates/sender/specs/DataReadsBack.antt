@@ -13,8 +13,9 @@ use Rattle.wire.specs.Write.{packetBytes, datagramOf, writeAnswer}
 use Rattle.wire.specs.Same.{Says}
 use Rattle.wire.specs.WrittenReadsBack.{written-reads-back}
 use Rattle.wire.specs.Round.Framing.{framed-length}
+use Rattle.common.specs.Answer.{roomAnswer}
 use Rattle.sender.specs.Record.{State, blockAt, storePlace, contents}
-use Rattle.sender.specs.Send.{dataValues, dataBytes, roomAnswer, newAnswer, newDatagram, lowestWaiting, resendAnswer, resendDatagram}
+use Rattle.sender.specs.Send.{dataValues, dataBytes, newAnswer, newDatagram, lowestWaiting, resendAnswer, resendDatagram}
 use Rattle.sender.specs.Facts.{consistent-facts}
 use Rattle.sender.specs.SendReady.{sound-facts, new-accepted, resend-accepted, resend-ready}
 

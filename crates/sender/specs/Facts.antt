@@ -8,14 +8,15 @@ use lib.Dec.{leb}
 use lib.ListN.{length, getD, List·getD-eq-default}
 use borrow.Author.Tests.{leb-true, ltb-true, eqb-true, le-leb, lt-ltb, eq-eqb, not-true}
 use Rattle.common.specs.Every.{every, allBelow, countBelow}
-use Rattle.common.specs.EveryLaws.{all-every, all-at, all-from, implied, imply}
+use Rattle.common.specs.EveryLaws.{all-every, all-at, all-from, implied, imply, every-at, every-none, every-first}
 use Rattle.common.specs.CountLaws.{some-at, one-only, one-from}
 use Rattle.common.specs.Facts.{lt-or-ge, bool, clash}
 use Rattle.window.specs.Sliding.{Shape}
+use Rattle.window.specs.Places.{at-number}
 use Rattle.sender.specs.declared.NumberPlace.{NumberPlace}
 use Rattle.sender.specs.declared.Sender.{Sender}
 use Rattle.sender.specs.Record.{isPending, isInFlight, isWaiting, isAcknowledged, numberPasses, blockPasses, noNumber, noBlock, numberAt, blockAt}
-use Rattle.sender.specs.PlaceTests.{passes-at, passes-first, passes-none, at-number, zero-number, number-zero, zero-block, block-zero, number-past, number-pending, number-done, heldTests, block-past, block-held, carried, carrying}
+use Rattle.sender.specs.PlaceTests.{zero-number, number-zero, zero-block, block-zero, number-past, number-pending, number-done, heldTests, block-past, block-held, carried, carrying}
 use Rattle.sender.specs.Consistent.{numberFits, carries, oneCarrier, blockFits, numberOk, blockOk, spareNumber, spareBlock, consistencyTests, consistentOf}
 
 pub record Bounds (w : ℕ) (s : Sender) : Type 0 where
@@ -109,9 +110,9 @@ module _ (w cap : ℕ) (s : Sender) where
         (λ lt. let h = sym (number-pending (numberAt w s n) _ n _ _ _ _ lt t) ∙ ns n l u in
         record {
           within = lt;
-          least = leb-true _ _ (passes-at _ h 0);
-          most = ltb-true _ _ (passes-at _ h 1);
-          flies = passes-at _ h 2;
+          least = leb-true _ _ (every-at _ h 0);
+          most = ltb-true _ _ (every-at _ h 1);
+          flies = every-at _ h 2;
         })
         (λ ge. clash (isPending (numberAt w s n)) t
         (ap (λ (p : NumberPlace). isPending p) (zero-number (numberAt w s n) (sym (number-past (numberAt w s n) _ n _ _ _ _ ge) ∙ ns n l u))))
@@ -121,9 +122,9 @@ module _ (w cap : ℕ) (s : Sender) where
     done-range n l u t =
         let h = sym (number-done (numberAt w s n) _ n _ _ _ _ u t) ∙ ns n l (omega (arith, b .room)) in
         record {
-          passes = passes-at _ h 0;
-          least = leb-true _ _ (passes-at _ h 1);
-          most = ltb-true _ _ (passes-at _ h 2);
+          passes = every-at _ h 0;
+          least = leb-true _ _ (every-at _ h 1);
+          most = ltb-true _ _ (every-at _ h 2);
         }
 
     held : (c : ℕ) → s .channellow .0 ≤ c → c < s .channelnext .0 → every (heldTests (blockAt w s c) (oneCarrier w s c)) ≡ true
@@ -133,7 +134,7 @@ module _ (w cap : ℕ) (s : Sender) where
     unfolding oneCarrier
     counted c l u t =
         eqb-true _ _
-        (subst (λ (x : Bool). cond x (oneCarrier w s c) (cond (isWaiting (blockAt w s c)) true (isAcknowledged (blockAt w s c))) ≡ true) t (passes-at _ (held c l u) 1))
+        (subst (λ (x : Bool). cond x (oneCarrier w s c) (cond (isWaiting (blockAt w s c)) true (isAcknowledged (blockAt w s c))) ≡ true) t (every-at _ (held c l u) 1))
 
     one-carrier : (c : ℕ) → s .channellow .0 ≤ c → c < s .channelnext .0 → isInFlight (blockAt w s c) ≡ true → Carrier w s c
     one-carrier c l u t =
@@ -164,10 +165,10 @@ module _ (w cap : ℕ) (s : Sender) where
         pending = pending-out b ns bs;
         done = done-range b ns bs;
         unused = λ n l u. zero-number (numberAt w s n) (sym (number-past (numberAt w s n) _ n _ _ _ _ l) ∙ ns n (omega (arith, b .next)) u);
-        short = λ c l u. leb-true _ _ (passes-at _ (held b ns bs c l u) 0);
+        short = λ c l u. leb-true _ _ (every-at _ (held b ns bs c l u) 0);
         rests = λ c l u t.
             subst (λ (x : Bool). cond x (oneCarrier w s c) (cond (isWaiting (blockAt w s c)) true (isAcknowledged (blockAt w s c))) ≡ true) t
-            (passes-at _ (held b ns bs c l u) 1);
+            (every-at _ (held b ns bs c l u) 1);
         vacant = λ c l u. zero-block (blockAt w s c) (sym (block-past (blockAt w s c) _ c _ l) ∙ bs c (omega (arith, b .channelnext)) u);
         single = one-carrier b ns bs;
         only = no-other b ns bs;
@@ -184,7 +185,7 @@ module _ (w cap : ℕ) (s : Sender) where
       }
     where
       test : (i : ℕ) → getD (consistencyTests w cap s) i true ≡ true
-      test = passes-at (consistencyTests w cap s) h
+      test = every-at (consistencyTests w cap s) h
 
       longn : length (s .numbers) ≡ cap
       longn = eqb-true _ _ (test 0)
@@ -256,24 +257,24 @@ module _ (w cap : ℕ) (s : Sender) where
   unfolding consistentOf numberOk blockOk spareNumber spareBlock
   facts-consistent f =
       let b = f .bounds in
-      passes-first _ _ (eq-eqb _ _ (f .numbers))
-      ∙ passes-first _ _ (eq-eqb _ _ (f .blocks))
-      ∙ passes-first _ _ (le-leb _ _ (b .firstdata))
-      ∙ passes-first _ _ (le-leb _ _ (b .firstchannel))
-      ∙ passes-first _ _ (le-leb _ _ (b .shortest))
-      ∙ passes-first _ _ (le-leb _ _ (b .longest))
-      ∙ passes-first _ _ (le-leb _ _ (b .low))
-      ∙ passes-first _ _ (le-leb _ _ (b .next))
-      ∙ passes-first _ _ (le-leb _ _ (b .full))
-      ∙ passes-first _ _ (le-leb _ _ (b .room))
-      ∙ passes-first _ _ (le-leb _ _ (b .channellow))
-      ∙ passes-first _ _ (le-leb _ _ (b .channelnext))
-      ∙ passes-first _ _ (le-leb _ _ (b .channelfull))
-      ∙ passes-first _ _ (le-leb _ _ (b .channelroom))
-      ∙ passes-first _ _ (ap not (f .lowStands))
-      ∙ passes-first _ _ (ap not (f .channelStands))
-      ∙ passes-first _ _ (all-from (numberOk w s) w (λ i l. number-fits f (s .low .0 + i) (omega arith) (omega arith)))
-      ∙ passes-first _ _ (all-from (blockOk w s) w (λ i l. block-fits f (s .channellow .0 + i) (omega arith) (omega arith)))
-      ∙ passes-first _ _ (all-from (spareNumber w s) cap (λ i l. imply (leb w i) _ (λ t. number-zero _ (f .spareNumbers i (leb-true w i t)))))
-      ∙ passes-first _ _ (all-from (spareBlock w s) cap (λ i l. imply (leb w i) _ (λ t. block-zero _ (f .spareBlocks i (leb-true w i t)))))
-      ∙ passes-none
+      every-first _ _ (eq-eqb _ _ (f .numbers))
+      ∙ every-first _ _ (eq-eqb _ _ (f .blocks))
+      ∙ every-first _ _ (le-leb _ _ (b .firstdata))
+      ∙ every-first _ _ (le-leb _ _ (b .firstchannel))
+      ∙ every-first _ _ (le-leb _ _ (b .shortest))
+      ∙ every-first _ _ (le-leb _ _ (b .longest))
+      ∙ every-first _ _ (le-leb _ _ (b .low))
+      ∙ every-first _ _ (le-leb _ _ (b .next))
+      ∙ every-first _ _ (le-leb _ _ (b .full))
+      ∙ every-first _ _ (le-leb _ _ (b .room))
+      ∙ every-first _ _ (le-leb _ _ (b .channellow))
+      ∙ every-first _ _ (le-leb _ _ (b .channelnext))
+      ∙ every-first _ _ (le-leb _ _ (b .channelfull))
+      ∙ every-first _ _ (le-leb _ _ (b .channelroom))
+      ∙ every-first _ _ (ap not (f .lowStands))
+      ∙ every-first _ _ (ap not (f .channelStands))
+      ∙ every-first _ _ (all-from (numberOk w s) w (λ i l. number-fits f (s .low .0 + i) (omega arith) (omega arith)))
+      ∙ every-first _ _ (all-from (blockOk w s) w (λ i l. block-fits f (s .channellow .0 + i) (omega arith) (omega arith)))
+      ∙ every-first _ _ (all-from (spareNumber w s) cap (λ i l. imply (leb w i) _ (λ t. number-zero _ (f .spareNumbers i (leb-true w i t)))))
+      ∙ every-first _ _ (all-from (spareBlock w s) cap (λ i l. imply (leb w i) _ (λ t. block-zero _ (f .spareBlocks i (leb-true w i t)))))
+      ∙ every-none

@@ -3,7 +3,6 @@ use Prim.Native.Nat.{ℕ}
 use mathlib.Core.Bool.{true}
 use mathlib.Core.List.{List, [], _∷_}
 use mathlib.Core.Path.{_≡_, refl}
-use lib.ListN.{replicate}
 use Rattle.common.specs.Every.{every, allBelow, countBelow, implies}
 use Rattle.common.specs.Order.{first}
 use Rattle.numbers.specs.Widen.{widenOf}
@@ -12,8 +11,9 @@ use Rattle.wire.specs.Frame.{swapped, droppedBy, endOf}
 use Rattle.wire.specs.Flags.{sixOf, outside}
 use Rattle.wire.specs.Layout.{ackEnd, overheadEnd, delayEnd, aoaEnd, numberEnd, vectorEnd, channelEnd, valuesOf, packetOf, partOf}
 use Rattle.wire.specs.Read.{readPacket, readOf}
+use Rattle.sender.specs.Fresh.{freshOf}
 use Rattle.sender.specs.declared.Sender.{Sender}
-use Rattle.sender.specs.Record.{isPending, noNumber, noBlock, numberAt}
+use Rattle.sender.specs.Record.{isPending, numberAt}
 use Rattle.sender.specs.Consistent.{zeroNumber, zeroBlock, numberFits, carries, oneCarrier, blockFits, numberOk, blockOk, spareNumber, spareBlock, consistentOf}
 use Rattle.sender.specs.Turn.{turnOne, turnUpTo, numbersMoved, blocksMoved, turnedOf}
 use Rattle.sender.specs.Acknowledge.{acknowledgedOf, toldAnswer, toldNames, toldOf, toldBy, readAnswer, readInto, acknowledgeAnswer, acknowledgeOf}
@@ -21,18 +21,7 @@ use Rattle.sender.specs.Send.{sentOf}
 use Rattle.sender.specs.Run.{run}
 
 abbrev pub fresh : Sender
-fresh =
-    record {
-      firstdata = record { 0 = 0 };
-      firstchannel = record { 0 = 0 };
-      timeout = 300;
-      low = record { 0 = 0 };
-      next = record { 0 = 0 };
-      channellow = record { 0 = 0 };
-      channelnext = record { 0 = 0 };
-      numbers = replicate 32 noNumber;
-      blocks = replicate 32 noBlock;
-    }
+fresh = freshOf 32 0 0 300
 
 pub fresh-consistent : consistentOf 32 32 fresh ≡ true
 unfolding consistentOf every allBelow countBelow implies zeroNumber zeroBlock numberFits carries oneCarrier blockFits numberOk blockOk spareNumber spareBlock

@@ -1,50 +1,28 @@
 -- What the tests of one place come to, by where its number stands and what its state is.
-use Prim.Native.Nat.{ℕ, zero, suc, _+_, _-_, _≤_, _<_}
+use Prim.Native.Nat.{ℕ, zero, _+_, _-_, _≤_, _<_}
 use mathlib.Core.Bool.{Bool, true, false, cond}
 use mathlib.Core.List.{List, [], _∷_}
 use mathlib.Core.Path.{_≡_, refl, ap, subst}
 use native.Mathlib.Omega.{arith}
 use lib.Dec.{eqb, leb}
-use lib.ListN.{length, getD}
+use lib.ListN.{length}
 use borrow.Author.Tests.{eqb-true, le-leb, lt-leb, eq-eqb}
 use Rattle.common.specs.Every.{every}
-use Rattle.common.specs.EveryLaws.{AllTrue, every-all, all-every}
+use Rattle.common.specs.EveryLaws.{all-every, every-at}
 use Rattle.sender.specs.declared.NumberPlace.{NumberPlace}
 use Rattle.sender.specs.declared.BlockPlace.{BlockPlace}
 use Rattle.sender.specs.declared.Sender.{Sender}
 use Rattle.sender.specs.Record.{isPending, isInFlight, isWaiting, isAcknowledged, noNumber, noBlock, numberAt}
 use Rattle.sender.specs.Consistent.{zeroNumber, zeroBlock, pendingTests, doneTests, numberFits, carries, blockFits}
 
--- The i-th test of a list that passes.
-pub passes-at : (bs : List Bool) → every bs ≡ true → (i : ℕ) → getD bs i true ≡ true
-passes-at bs h = go bs (every-all bs h)
-  where
-    go : (bs : List Bool) → AllTrue bs → (i : ℕ) → getD bs i true ≡ true
-    go [] a i = refl
-    go (b ∷ bs) a zero = a .0
-    go (b ∷ bs) a (suc i) = go bs (a .1) i
-
--- A test that passes leaves it to the others.
-pub passes-first : (b : Bool) (bs : List Bool) → b ≡ true → every (b ∷ bs) ≡ every bs
-unfolding every
-passes-first b bs h = rw h refl
-
-pub passes-none : every [] ≡ true
-unfolding every
-passes-none = refl
-
--- What holds at each place from b on holds of each number.
-pub at-number : (P : ℕ → Type 0) (b w : ℕ) → ((i : ℕ) → i < w → P (b + i)) → (n : ℕ) → b ≤ n → n < b + w → P n
-at-number P b w h n l u = subst P (let e : b + (n - b) ≡ n = omega arith in e) (h (n - b) (omega arith))
-
 -- A zero place is the blank one.
 pub zero-number : (p : NumberPlace) → zeroNumber p ≡ true → p ≡ noNumber
 unfolding zeroNumber
 zero-number p h =
     let ts : List Bool = eqb (p .state) 0 ∷ eqb (p .channel .0) 0 ∷ eqb (p .tick) 0 ∷ [] in
-    let k = eqb-true (p .state) 0 (passes-at ts h 0) in
-    let l = eqb-true (p .channel .0) 0 (passes-at ts h 1) in
-    let m = eqb-true (p .tick) 0 (passes-at ts h 2) in
+    let k = eqb-true (p .state) 0 (every-at ts h 0) in
+    let l = eqb-true (p .channel .0) 0 (every-at ts h 1) in
+    let m = eqb-true (p .tick) 0 (every-at ts h 2) in
     λ i. record { state = k i; channel = record { 0 = l i }; tick = m i }
 
 pub number-zero : (p : NumberPlace) → p ≡ noNumber → zeroNumber p ≡ true
@@ -55,8 +33,8 @@ pub zero-block : (b : BlockPlace) → zeroBlock b ≡ true → b ≡ noBlock
 unfolding zeroBlock
 zero-block b h =
     let ts : List Bool = eqb (b .state) 0 ∷ eqb (b .length) 0 ∷ [] in
-    let k = eqb-true (b .state) 0 (passes-at ts h 0) in
-    let l = eqb-true (b .length) 0 (passes-at ts h 1) in
+    let k = eqb-true (b .state) 0 (every-at ts h 0) in
+    let l = eqb-true (b .length) 0 (every-at ts h 1) in
     λ i. record { state = k i; length = l i }
 
 pub block-zero : (b : BlockPlace) → b ≡ noBlock → zeroBlock b ≡ true
@@ -102,4 +80,4 @@ module _ (w : ℕ) (s : Sender) where
   unfolding carries
   carrying c i h =
       let ts : List Bool = isPending (numberAt w s (s .low .0 + i)) ∷ eqb (numberAt w s (s .low .0 + i) .channel .0) c ∷ [] in
-      (passes-at ts h 0, eqb-true (numberAt w s (s .low .0 + i) .channel .0) c (passes-at ts h 1))
+      (every-at ts h 0, eqb-true (numberAt w s (s .low .0 + i) .channel .0) c (every-at ts h 1))

@@ -35,10 +35,6 @@ dataBytes low next c block = datagramOf (dataValues low next c) [] [] block
 abbrev pub dataDatagram : Sender → ℕ → List ℕ → List ℕ
 dataDatagram s c block = dataBytes (s .low .0) (s .next .0) c block
 
--- 14 exactly if the output buffer is too short for some bytes
-unfoldable pub roomAnswer : List ℕ → ℕ → ℕ
-roomAnswer bytes room = first (test (ltb room (length bytes)) 14 ∷ [])
-
 -- the next data number carries block c, of so many bytes, from this tick on: pending, and the block in flight
 abbrev pub sentOf : ℕ → Sender → ℕ → ℕ → ℕ → ℕ → Sender
 sentOf w s tick c length channelnext =

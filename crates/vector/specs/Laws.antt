@@ -13,7 +13,7 @@ use lib.Pow.{shr-shr, pow-pos}
 use borrow.Author.Tests.{lt-ltb, le-ltb, ltb-true, eq-eqb, ne-eqb}
 use Rattle.common.specs.Order.{test, first, first-here, first-skip, first-none}
 use Rattle.common.specs.Put.{putOf}
-use Rattle.common.specs.Answer.{writtenOf, leftOf}
+use Rattle.common.specs.Answer.{writtenOf, leftOf, roomAnswer}
 use Rattle.common.specs.declared.Written.the-variants.{Refused, Wrote}
 use Rattle.vector.specs.declared.Saying.the-variants.{Map, Run}
 use Rattle.vector.specs.Says.{bitOf, saysOf, bitsOf, statesIn, countOf, receivedIn}
@@ -224,14 +224,14 @@ vector-short ss = let h = vector-sevenths ss in omega arith
 
 pub write-refused : (ss : List Bool) (out : List ℕ) → length out < length (vectorOf ss)
     → (Refused 14 ≡ writtenOf (answerOf ss (length out)) (vectorOf ss)) × (out ≡ leftOf (answerOf ss (length out)) (vectorOf ss) out)
-unfolding answerOf writtenOf leftOf
+unfolding answerOf roomAnswer writtenOf leftOf
 write-refused ss out h =
     let e : 14 ≡ first (test (ltb (length out) (length (vectorOf ss))) 14 ∷ []) = first-here _ _ _ (lt-ltb _ _ h) in
     (rw (← e) refl, rw (← e) refl)
 
 pub write-done : (ss : List Bool) (out : List ℕ) → length (vectorOf ss) ≤ length out
     → (Wrote (length (vectorOf ss)) ≡ writtenOf (answerOf ss (length out)) (vectorOf ss)) × (putOf out 0 (vectorOf ss) ≡ leftOf (answerOf ss (length out)) (vectorOf ss) out)
-unfolding answerOf writtenOf leftOf
+unfolding answerOf roomAnswer writtenOf leftOf
 write-done ss out h =
     let e : 0 ≡ first (test (ltb (length out) (length (vectorOf ss))) 14 ∷ []) = first-none ∙ first-skip _ _ _ (le-ltb _ _ h) in
     (rw (← e) refl, rw (← e) refl)

@@ -5,7 +5,8 @@ use mathlib.Core.Bool.{Bool, cond, not}
 use mathlib.Core.List.{List, [], _∷_}
 use lib.ListN.{length, take, drop}
 use lib.Dec.{ltb}
-use Rattle.common.specs.Order.{test, first}
+use Rattle.common.specs.Order.{first}
+use Rattle.common.specs.Answer.{roomAnswer}
 
 abbrev pub one : Bool → ℕ
 one s = cond s 1 0
@@ -43,4 +44,4 @@ vectorOf ss = bytesBy (length ss) ss
 
 -- 14 exactly if the output buffer is too short
 unfoldable pub answerOf : List Bool → ℕ → ℕ
-answerOf ss room = first (test (ltb room (length (vectorOf ss))) 14 ∷ [])
+answerOf ss room = roomAnswer (vectorOf ss) room

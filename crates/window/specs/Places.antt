@@ -1,13 +1,13 @@
 -- Numbers and their places. These laws alone look into what "modulo" is.
-use Prim.Native.Nat.{ℕ, zero, suc, _+_, _*_, _%_, _/_, _≤_, _<_}
+use Prim.Native.Nat.{ℕ, zero, suc, _+_, _-_, _*_, _%_, _/_, _≤_, _<_}
 use mathlib.Core.Bool.{cond}
 use mathlib.Core.List.{List, [], _∷_}
 use mathlib.Core.Logic.{⊎-elim}
-use mathlib.Core.Path.{_≡_, refl, sym, _∙_, ap}
+use mathlib.Core.Path.{_≡_, refl, sym, _∙_, ap, subst}
 use native.Mathlib.Nat.{mod-lt, div-add-mod', mul-le-mul-right, suc-mul, mul-add-mod-self-right, mod-eq-of-lt, le-of-suc-le-suc, not-suc-le-zero}
 use native.Mathlib.Omega.{arith}
 use lib.Dec.{ltb}
-use lib.ListN.{length, getD}
+use lib.ListN.{length, getD, replicate}
 use borrow.Author.Tests.{lt-ltb, le-ltb}
 use Rattle.common.specs.Facts.{lt-or-ge}
 
@@ -62,3 +62,13 @@ getD-tabulate (suc n) f (suc i) d h = getD-tabulate n (λ j. f (suc j)) i d (le-
 -- cap places, of which w are in use, hold f of the numbers from b on
 unfoldable pub spread : {A : Type 0} → A → ℕ → ℕ → ℕ → (ℕ → A) → List A
 spread blank w cap b f = tabulate cap (λ i. cond (ltb i w) (f (numberAt w b i)) blank)
+
+-- A list of one value has it everywhere.
+pub always : {A : Type 0} (n i : ℕ) (a : A) → getD (replicate n a) i a ≡ a
+always zero i a = refl
+always (suc n) zero a = refl
+always (suc n) (suc i) a = always n i a
+
+-- What holds at each place from b on holds of each number.
+pub at-number : (P : ℕ → Type 0) (b w : ℕ) → ((i : ℕ) → i < w → P (b + i)) → (n : ℕ) → b ≤ n → n < b + w → P n
+at-number P b w h n l u = subst P (let e : b + (n - b) ≡ n = omega arith in e) (h (n - b) (omega arith))

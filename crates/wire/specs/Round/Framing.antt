@@ -4,10 +4,11 @@ use mathlib.Core.Bool.{Bool, true, false}
 use mathlib.Core.List.{List, [], _∷_}
 use mathlib.Core.Path.{_≡_, refl}
 use native.Mathlib.Omega.{arith}
-use lib.ListN.{length, getD, set, length-append, length-set, length-replicate}
+use lib.ListN.{length, getD, set, length-append, length-set, length-replicate, length-take, length-drop}
 use lib.Dec.{eqb, ltb}
 use borrow.Author.Tests.{ne-eqb, ltb-true, ltb-false}
 use Rattle.wire.specs.Frame.{swapped, reservedIn, typeIn, shortIn, droppedBy, endOf, framed, prefixFor, padded}
+use Rattle.wire.specs.Layout.{partOf}
 use Rattle.wire.specs.Same.{Bytes}
 
 pub swapped-length : (d : List ℕ) → length (swapped d) ≡ length d
@@ -73,3 +74,8 @@ prefix-facts packet h = go (ltb (length packet) 7) refl
 pub framed-end : (packet : List ℕ) → 0 < length packet → endOf (prefixFor packet ∷ padded packet) ≡ 1 + length packet
 unfolding endOf
 framed-end packet h = rw (padded-length packet) (omega (arith, prefix-facts packet h .drops))
+
+-- A part that stands within a datagram has its length.
+pub part-length : (d : List ℕ) (at n : ℕ) → at + n ≤ length d → length (partOf d at n) ≡ n
+unfolding partOf
+part-length d at n h = simp (length-take, length-drop, swapped-length) (omega arith)

@@ -3,9 +3,10 @@ use native.Mathlib.Omega.{arith}
 use Prim.Native.Nat.{_-_, _≤_}
 use mathlib.Core.Path.{_≡_, refl, sym, _∙_, ap}
 use lib.ListN.{replicate, length, take}
+use Rattle.receiver.specs.AcknowledgeLaws.{states-length}
 use Rattle.receiver.specs.Acknowledge.{statesFrom}
 use Rattle.receiver.proofs.Consistency.{facts}
-use Rattle.receiver.proofs.Vectors.{states-none, states-step, states-done, states-length, vector-coded, vector-never}
+use Rattle.receiver.proofs.Vectors.{states-none, states-step, states-done, vector-coded, vector-never}
 use Rattle.receiver.proofs.Acknowledging.{vector-written}
 use borrow.Author.Needs.{needs}
 use Rattle.receiver.proofs.acknowledgement.write_vector.Statement.{statement}

@@ -1,8 +1,9 @@
 -- `receiver::packet::apply` meets its contract: each way out is an instance of a law of Applying and Block and Consistency and Told.
 use native.Mathlib.Omega.{arith}
 use mathlib.Core.Path.{refl, sym}
+use Rattle.wire.specs.Round.Framing.{part-length}
+use Rattle.receiver.specs.Blocks.{read-block}
 use Rattle.receiver.proofs.Consistency.{facts}
-use Rattle.receiver.proofs.Block.{block-within, part-length}
 use Rattle.receiver.proofs.Told.{waiver-told, content-told, content-data}
 use Rattle.receiver.proofs.Applying.{applied-refused, applied-nothing, applied-waiver, applied-content}
 use borrow.Author.Needs.{needs}
@@ -52,10 +53,10 @@ element-copy-out-hold c = search needs
 
 hold-requires : tie.Need-hold-requires
 hold-requires c κs =
-    let b = block-within _ _ (c .before .before .before .before .before .before .before .before .before .before .before .before .pre .1 .1 .0)
+    let b = read-block _ _ (c .before .before .before .before .before .before .before .before .before .before .before .before .pre .1 .1 .0)
     (content-data _ _ _ _ _ _ _ (c .before .before .before .before .before .before .before .before .before .before .before .before .pre .1 .1 .1)
     (c .before .before .before .before .before .before .before .a2 .given .1)) in
-    (c .before .before .before .before .before .before .before .before .before .before .before .before .pre .1 .0, b .long, b .behind, b .inside, b .short)
+    (c .before .before .before .before .before .before .before .before .before .before .before .before .pre .1 .0, b .wide, omega (arith, b .place), b .inside, b .short)
 
 mul-h : tie.Need-mul-h
 mul-h c = search needs
@@ -83,7 +84,7 @@ returns-4 c =
     (c .before .before .before .before .before .channel-place .ensures .0) _ refl
     (sym
     (part-length _ _ _
-    (block-within _ _ (c .before .before .before .before .before .before .before .before .before .before .before .before .before .before .before .pre .1 .1 .0)
+    (read-block _ _ (c .before .before .before .before .before .before .before .before .before .before .before .before .before .before .before .pre .1 .1 .0)
     (content-data _ _ _ _ _ _ _ (c .before .before .before .before .before .before .before .before .before .before .before .before .before .before .before .pre .1 .1 .1)
     (c .before .before .before .before .before .before .before .before .before .before .a2 .given .1)) .inside))) _ (c .before .before .hold .ensures .0) _
     (c .before .before .hold .ensures .1)
