@@ -21,8 +21,8 @@ comes-requires c κs = search needs
 next-requires : tie.Need-next-requires Inv-loop μ-loop
 next-requires c κs = search needs
 
-divides-requires : tie.Need-divides-requires Inv-loop μ-loop
-divides-requires c κs = search needs
+ends-requires : tie.Need-ends-requires Inv-loop μ-loop
+ends-requires c κs = search needs
 
 takes-requires : tie.Need-takes-requires Inv-loop μ-loop
 takes-requires c κs = search needs
@@ -51,7 +51,7 @@ all-spec =
     loop-holds
     comes-requires
     next-requires
-    divides-requires
+    ends-requires
     takes-requires
     add-i
     loop-less
