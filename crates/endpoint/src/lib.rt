@@ -23,15 +23,21 @@ const LONGEST: u32 = 60000;
 
 // What opening answers: document 01's number, and both records; where it is refused they are all zero, and the sender's is inconsistent.
 pub struct Opened {
+    // Document 01's number.
     pub answer: u8,
+    // The sender's half.
     pub sender: Sender,
+    // The receiver's half.
     pub receiver: Receiver,
 }
 
 // What receiving a datagram answers: document 01's number, and both records after the call.
 pub struct Received {
+    // Document 01's number.
     pub answer: u8,
+    // The sender's record after the call.
     pub sender: Sender,
+    // The receiver's record after the call.
     pub receiver: Receiver,
 }
 

@@ -43,12 +43,13 @@ pub struct Hold {
 
 // The receiver's record.
 pub struct Receiver {
-    // The first number of each kind.
+    // The first data number.
     pub firstdata: DataNumber,
+    // The first channel number.
     pub firstchannel: ChannelNumber,
-    // The lowest data number neither received nor waived.
+    // "The lowest data number neither received nor waived".
     pub base: DataNumber,
-    // One more than the highest data number received, at first the first number.
+    // "One more than the highest received, at first the first number".
     pub end: DataNumber,
     // The next channel number due.
     pub due: ChannelNumber,
@@ -60,13 +61,17 @@ pub struct Receiver {
 
 // What receiving a datagram answers: document 01's number, and the record after the call.
 pub struct Received {
+    // Document 01's number.
     pub answer: u8,
+    // The record after the call.
     pub receiver: Receiver,
 }
 
 // What taking a block answers, and the record after the call.
 pub struct Taken {
+    // The refusal, or how many bytes were copied out.
     pub written: Written,
+    // The record after the call.
     pub receiver: Receiver,
 }
 
@@ -87,7 +92,7 @@ pub fn opened(firstdata: u16, firstchannel: u16) -> Receiver
     }
 }
 
-// Receives one datagram. Refused with 13, then as reading it, then with 7.
+// Receives one datagram into the receiver's half alone: keeps its block in store, 39,200 bytes. Refused with 13, then as reading it, then with 7.
 pub fn receive(r: Receiver, store: &mut [u8], d: &[u8]) -> Received
     ensures answer { λ x. ⌜ x .answer ≡ receiveAnswer 32 32 (state r (now (store .entry))) (now (d .entry)) ⌝ }
     ensures record { λ x. ⌜ x .receiver ≡ receiveOf 32 32 (state r (now (store .entry))) (now (d .entry)) .receiver ⌝ }
@@ -134,7 +139,7 @@ fn freed(r: Receiver) -> Receiver
     q
 }
 
-// Takes the block due: copies it out, and frees its place. Refused with 13, 11, 14.
+// Takes the block due: copies it from store into out, and frees its place. Refused with 13, 11, 14, in this order.
 pub fn take(r: Receiver, store: &[u8], out: &mut [u8]) -> Taken
     ensures answer { λ x. ⌜ x .written ≡ writtenOf (takeAnswer 32 32 (state r (now (store .entry))) (length (now (out .entry)))) (blockDue 32 (state r (now (store .entry)))) ⌝ }
     ensures record { λ x. ⌜ x .receiver ≡ takenOf 32 32 (state r (now (store .entry))) (length (now (out .entry))) ⌝ }
@@ -170,7 +175,7 @@ pub fn take(r: Receiver, store: &[u8], out: &mut [u8]) -> Taken
     }
 }
 
-// Writes an acknowledgement; no record changes. Refused with 13, 11, 14.
+// Writes an acknowledgement of what has arrived into out, with the caller's time stamp and gap; no record changes. Refused with 13, 11, 14, in this order.
 pub fn acknowledge(r: Receiver, stamp: u32, gap: u8, out: &mut [u8]) -> Written
     ensures answer { λ x. ⌜ x ≡ writtenOf (acknowledgeAnswer 32 32 r stamp gap (length (now (out .entry)))) (acknowledgementOf 32 r stamp gap) ⌝ }
     ensures bytes { λ x. ⌜ now (out .exit) ≡ leftOf (acknowledgeAnswer 32 32 r stamp gap (length (now (out .entry)))) (acknowledgementOf 32 r stamp gap) (now (out .entry)) ⌝ }

@@ -32,14 +32,19 @@ pub struct Walked {
 
 // A judged acknowledgement: the answer, and which numbers it names, by a flag at their place or by lying below a number.
 pub struct Judged {
+    // Document 01's number.
     pub answer: u8,
+    // Is the number at this place named?
     pub flags: [bool; 32],
+    // Every number below this one is named.
     pub upto: u64,
 }
 
 // What the call answers, and the record.
 pub struct Acknowledged {
+    // Document 01's number.
     pub answer: u8,
+    // The record after the call.
     pub sender: Sender,
 }
 

@@ -44,8 +44,9 @@ pub const ACKNOWLEDGED: u8 = 3;
 pub struct NumberPlace {
     // Unused, pending, received or lost.
     pub state: u8,
-    // The block that it carries, and the tick at which it was sent.
+    // The block that it carries.
     pub channel: ChannelNumber,
+    // The tick at which it was sent.
     pub tick: u32,
 }
 
@@ -59,18 +60,23 @@ pub struct BlockPlace {
 
 // The sender's record.
 pub struct Sender {
-    // The first number of each kind, and the loss timeout in milliseconds.
+    // The first data number.
     pub firstdata: DataNumber,
+    // The first channel number.
     pub firstchannel: ChannelNumber,
+    // The loss timeout, in milliseconds.
     pub timeout: u32,
-    // Data numbers from low up to next are in range; low is the first pending one, or next.
+    // The first pending data number, or next; numbers from here up to next are in range.
     pub low: DataNumber,
+    // The data number of the next send.
     pub next: DataNumber,
-    // Blocks from channel low up to channel next are in range; channel low is the first unacknowledged one, or channel next.
+    // The first block that is not acknowledged, or channel next; blocks from here up to channel next are in range.
     pub channellow: ChannelNumber,
+    // The channel number of the next new block.
     pub channelnext: ChannelNumber,
-    // Number n has place n modulo the window, block c place c modulo the window.
+    // The places of data numbers: number n has place n modulo the window.
     pub numbers: [NumberPlace; 32],
+    // The places of blocks: block c has place c modulo the window.
     pub blocks: [BlockPlace; 32],
 }
 

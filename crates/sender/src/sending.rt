@@ -22,7 +22,9 @@ use wire::Vector;
 
 // What a call that sends answers: what it wrote, and the record.
 pub struct Outcome {
+    // The refusal, or how many bytes were written.
     pub written: Written,
+    // The record after the call.
     pub sender: Sender,
 }
 

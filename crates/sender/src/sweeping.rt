@@ -14,14 +14,19 @@ use numbers::DataNumber;
 
 // Which numbers are lost if they are pending, each at its place, and how many are pending and lost.
 pub struct Losses {
+    // Is the number at this place lost, if it is pending?
     pub flags: [bool; 32],
+    // How many are pending and lost.
     pub count: u32,
 }
 
 // What the call answers, how many became lost, and the record.
 pub struct Swept {
+    // Document 01's number.
     pub answer: u8,
+    // How many became lost.
     pub lost: u32,
+    // The record after the call.
     pub sender: Sender,
 }
 

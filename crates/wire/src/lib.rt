@@ -65,14 +65,17 @@ pub struct Values {
     pub flags: u16,
     // LogWindowSize, 4 bits.
     pub logwindow: u8,
+    // The ACK.
     pub ack: Ack,
     // OverheadSize.
     pub overhead: u8,
+    // DelayAckInfo.
     pub delay: Delay,
     // AckOfAcks.
     pub aoa: u16,
     // DataSeqNum.
     pub number: u16,
+    // The acknowledgement vector, but for its bytes.
     pub vector: Vector,
     // ChannelSeqNum.
     pub channel: u16,
@@ -81,13 +84,15 @@ pub struct Values {
 // A packet that was read, with the places at which its additions, its vector bytes and its body stand. Places count in the datagram
 // with its first and eighth bytes exchanged: what stands at place 7 is the datagram's first byte. A place is 0 where nothing stands.
 pub struct Packet {
+    // The packet's values.
     pub values: Values,
     // Where the ACK's additions stand; there are as many as its count.
     pub additions: usize,
     // Where the vector bytes stand; there are as many as the vector's size.
     pub vector: usize,
-    // Where the block stands, and how many bytes it has.
+    // Where the block stands.
     pub body: usize,
+    // How many bytes the block has.
     pub bytes: usize,
 }
 
