@@ -33,7 +33,7 @@ fn shown(answer: u8, p: Pair) {
 }
 
 // Opens an endpoint.
-pub fn opens(name: &[u8], firstdata: u32, firstchannel: u32, timeout: u32) -> Pair {
+pub(crate) fn opens(name: &[u8], firstdata: u32, firstchannel: u32, timeout: u32) -> Pair {
     let o = endpoint::open(firstdata, firstchannel, timeout);
     let s = o.sender;
     let r = o.receiver;
@@ -47,7 +47,7 @@ pub fn opens(name: &[u8], firstdata: u32, firstchannel: u32, timeout: u32) -> Pa
 }
 
 // Sends a block of one byte.
-pub fn sends(p: Pair, sent: &mut [u8]) -> Pair {
+pub(crate) fn sends(p: Pair, sent: &mut [u8]) -> Pair {
     let mut out = [0u8; 64];
     let got = sender::sending::send(p.sender, sent, 0, b"a", &mut out);
     let s = got.sender;
@@ -59,7 +59,7 @@ pub fn sends(p: Pair, sent: &mut [u8]) -> Pair {
 }
 
 // These bytes arrive.
-pub fn arrives(name: &[u8], p: Pair, store: &mut [u8], datagram: &[u8]) -> Pair {
+pub(crate) fn arrives(name: &[u8], p: Pair, store: &mut [u8], datagram: &[u8]) -> Pair {
     let got = endpoint::receive(p.sender, p.receiver, store, datagram);
     let s = got.sender;
     let r = got.receiver;
@@ -119,7 +119,7 @@ fn values(flags: u16, upto: u16, data: u16, channel: u16) -> Values {
 }
 
 // A packet with these flags arrives: an ACK up to a number, a data number, and a channel number with one byte.
-pub fn packet(
+pub(crate) fn packet(
     name: &[u8],
     p: Pair,
     store: &mut [u8],

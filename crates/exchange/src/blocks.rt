@@ -20,7 +20,7 @@ fn byte(k: u32, i: usize) -> u8 {
 }
 
 // Writes block k, and answers its length.
-pub fn make(out: &mut [u8], k: u32) -> usize {
+pub(crate) fn make(out: &mut [u8], k: u32) -> usize {
     let n = length(k);
     let mut i = 0;
     while i < n {
@@ -34,7 +34,7 @@ pub fn make(out: &mut [u8], k: u32) -> usize {
 }
 
 // Are the first n bytes block k?
-pub fn is(block: &[u8], n: usize, k: u32) -> bool {
+pub(crate) fn is(block: &[u8], n: usize, k: u32) -> bool {
     if n != length(k) {
         return false;
     }

@@ -7,22 +7,22 @@ pub const SIZE: usize = 512;
 const PLACE: usize = 64;
 
 // The next number of the rule.
-pub fn next(seed: u32) -> u32 {
+pub(crate) fn next(seed: u32) -> u32 {
     ((seed as u64 * 1103515245 + 12345) % 2147483648) as u32
 }
 
 // The number of the rule after the next.
-pub fn after(seed: u32) -> u32 {
+pub(crate) fn after(seed: u32) -> u32 {
     next(next(seed))
 }
 
 // The place that the rule names.
-pub fn place(seed: u32) -> usize {
+pub(crate) fn place(seed: u32) -> usize {
     (seed / 65536 % 8) as usize
 }
 
 // Is a datagram at this place?
-pub fn holds(channel: &[u8], at: usize) -> bool {
+pub(crate) fn holds(channel: &[u8], at: usize) -> bool {
     if 7 < at {
         return false;
     }
@@ -33,7 +33,7 @@ pub fn holds(channel: &[u8], at: usize) -> bool {
 }
 
 // Puts a datagram's bytes at a place.
-pub fn put(channel: &mut [u8], at: usize, datagram: &[u8]) {
+pub(crate) fn put(channel: &mut [u8], at: usize, datagram: &[u8]) {
     if 7 < at {
         return;
     }
@@ -47,7 +47,7 @@ pub fn put(channel: &mut [u8], at: usize, datagram: &[u8]) {
 }
 
 // A datagram of so many bytes stands at a place; none, where there are no bytes.
-pub fn mark(channel: &mut [u8], at: usize, n: usize) {
+pub(crate) fn mark(channel: &mut [u8], at: usize, n: usize) {
     if 7 < at {
         return;
     }
@@ -66,7 +66,7 @@ fn wide(b: u8) -> usize {
 }
 
 // Copies out what stands at a place, and answers its length.
-pub fn get(channel: &[u8], at: usize, datagram: &mut [u8]) -> usize {
+pub(crate) fn get(channel: &[u8], at: usize, datagram: &mut [u8]) -> usize {
     if 7 < at {
         return 0;
     }

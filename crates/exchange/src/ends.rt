@@ -26,7 +26,7 @@ pub struct End {
 }
 
 // An end that has sent nothing.
-pub fn opened(firstdata: u32, firstchannel: u32) -> End {
+pub(crate) fn opened(firstdata: u32, firstchannel: u32) -> End {
     let o = endpoint::open(firstdata, firstchannel, 300);
     let s = o.sender;
     let r = o.receiver;
@@ -77,7 +77,7 @@ fn receives(e: End, store: &mut [u8], channel: &[u8], at: usize) -> End {
 }
 
 // Takes the block due, if it is held, and compares it with the other end's next.
-pub fn takes(e: End, store: &[u8]) -> End {
+pub(crate) fn takes(e: End, store: &[u8]) -> End {
     let mut block = [0u8; 64];
     let got = receiver::take(e.receiver, store, &mut block);
     let r = got.receiver;
@@ -201,7 +201,7 @@ fn says(e: End, sent: &mut [u8], channel: &mut [u8], seed: u32, tick: u32, upto:
 }
 
 // One end's turn: it hears and takes, then it says something.
-pub fn acts(
+pub(crate) fn acts(
     e: End,
     store: &mut [u8],
     sent: &mut [u8],

@@ -12,12 +12,12 @@ pub const FIRSTDATA: u32 = 65520;
 pub const FIRSTCHANNEL: u32 = 65530;
 
 // The packet that arrives after packet k.
-pub fn next(k: u32, factor: u32) -> u32 {
+pub(crate) fn next(k: u32, factor: u32) -> u32 {
     ((k as u64 + factor as u64) % 32) as u32
 }
 
 // Is i + 1 a multiple of every?
-pub fn ends(every: u32, i: u32) -> bool {
+pub(crate) fn ends(every: u32, i: u32) -> bool {
     if every == 0 {
         return false;
     }
@@ -109,7 +109,7 @@ fn fills(out: &mut [u8], k: u32) -> usize {
 }
 
 // Writes packet k, and answers its length.
-pub fn make(datagram: &mut [u8], k: u32) -> usize {
+pub(crate) fn make(datagram: &mut [u8], k: u32) -> usize {
     let mut bytes = [0u8; 40];
     let n = fills(&mut bytes, k);
     if 40 < n {

@@ -25,7 +25,7 @@ const ACKVEC: u16 = 8;
 const LOGWINDOW: u8 = 5;
 
 // Writes an ACK for the number before base.
-pub fn write_ack(r: Receiver, stamp: u32, gap: u8, out: &mut [u8]) -> Written
+pub(crate) fn write_ack(r: Receiver, stamp: u32, gap: u8, out: &mut [u8]) -> Written
     requires { ⌜ 1 ≤ r .base .0 ⌝ }
     ensures answer { λ x. ⌜ x ≡ writtenOf (roomAnswer (datagramOf (ackValues r stamp gap) [] [] []) (length (now (out .entry)))) (datagramOf (ackValues r stamp gap) [] [] []) ⌝ }
     ensures bytes { λ x. ⌜ now (out .exit)
@@ -62,7 +62,7 @@ pub fn write_ack(r: Receiver, stamp: u32, gap: u8, out: &mut [u8]) -> Written
 }
 
 // Writes a vector of the states from base to end - 1.
-pub fn write_vector(r: Receiver, out: &mut [u8]) -> Written
+pub(crate) fn write_vector(r: Receiver, out: &mut [u8]) -> Written
     requires { ⌜ consistentOf 32 32 r ≡ true ⌝ }
     requires { ⌜ r .base .0 < r .end .0 ⌝ }
     ensures answer { λ x. ⌜ x ≡ writtenOf (roomAnswer (datagramOf (vectorValues 32 r) [] (vectorOf (statesOf 32 r)) []) (length (now (out .entry))))

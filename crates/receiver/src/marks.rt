@@ -14,7 +14,7 @@ pub struct Marks {
 }
 
 // The larger of two numbers.
-pub fn larger(a: u64, b: u64) -> u64
+pub(crate) fn larger(a: u64, b: u64) -> u64
     ensures { λ r. ⌜ r ≡ max a b ⌝ }
 {
     if a < b {
@@ -79,7 +79,7 @@ fn advance(m: Marks) -> Marks
 }
 
 // All below v is waived, and base moves past marked places.
-pub fn waive(m: Marks, v: u64) -> Marks
+pub(crate) fn waive(m: Marks, v: u64) -> Marks
     requires { ⌜ (m .base ≤ 4294967296) × (v ≤ 4294967295) ⌝ }
     ensures { λ q. ⌜ winOf q ≡ slid 0 32 isMarked 32 (lifted 0 32 v (winOf m)) ⌝ }
 {
@@ -87,7 +87,7 @@ pub fn waive(m: Marks, v: u64) -> Marks
 }
 
 // All below v is waived, number n is marked, and base moves past marked places.
-pub fn note(m: Marks, n: u64, v: u64) -> Marks
+pub(crate) fn note(m: Marks, n: u64, v: u64) -> Marks
     requires { ⌜ (m .base ≤ 4294967296) × (v ≤ 4294967295) ⌝ }
     ensures { λ q. ⌜ winOf q ≡ slid 0 32 isMarked 32 (marked 32 (lifted 0 32 v (winOf m)) n) ⌝ }
 {

@@ -80,7 +80,7 @@ fn arrives(name: &[u8], r: Receiver, store: &mut [u8], v: Values, block: &[u8]) 
 }
 
 // A packet with DATA alone.
-pub fn plain(
+pub(crate) fn plain(
     name: &[u8],
     r: Receiver,
     store: &mut [u8],
@@ -92,7 +92,7 @@ pub fn plain(
 }
 
 // A packet with AckOfAcks and DATA.
-pub fn waiving(
+pub(crate) fn waiving(
     name: &[u8],
     r: Receiver,
     store: &mut [u8],
@@ -105,7 +105,7 @@ pub fn waiving(
 }
 
 // An AckOfAcks alone.
-pub fn waiver(name: &[u8], r: Receiver, store: &mut [u8], aoa: u16) -> Receiver {
+pub(crate) fn waiver(name: &[u8], r: Receiver, store: &mut [u8], aoa: u16) -> Receiver {
     arrives(name, r, store, content(0x010, aoa, 0, 0), b"")
 }
 
@@ -154,7 +154,7 @@ fn taken(name: &[u8], r: Receiver, store: &[u8], out: &mut [u8]) -> Receiver {
 }
 
 // A take into room for so many bytes.
-pub fn takes(name: &[u8], r: Receiver, store: &[u8], room: usize) -> Receiver
+pub(crate) fn takes(name: &[u8], r: Receiver, store: &[u8], room: usize) -> Receiver
     requires { ⌜ room ≤ 1225 ⌝ }
 {
     let mut out = [0u8; 1225];
@@ -170,7 +170,7 @@ fn acknowledged(name: &[u8], r: Receiver, out: &mut [u8]) {
 }
 
 // An acknowledgement into room for so many bytes.
-pub fn acknowledges(name: &[u8], r: Receiver, room: usize)
+pub(crate) fn acknowledges(name: &[u8], r: Receiver, room: usize)
     requires { ⌜ room ≤ 64 ⌝ }
 {
     let mut out = [0u8; 64];

@@ -63,7 +63,7 @@ fn zero_block(b: BlockPlace) -> bool
 }
 
 // Does low pass a number in this state?
-pub fn passes(state: u8) -> bool
+pub(crate) fn passes(state: u8) -> bool
     ensures { λ r. ⌜ r ≡ cond (eqb state 2) true (eqb state 3) ⌝ }
 {
     if state == crate::RECEIVED {

@@ -76,13 +76,13 @@ fn sent(
 }
 
 // A new block, with room for the longest datagram.
-pub fn sends(name: &[u8], s: Sender, store: &mut [u8], tick: u32, block: &[u8]) -> Sender {
+pub(crate) fn sends(name: &[u8], s: Sender, store: &mut [u8], tick: u32, block: &[u8]) -> Sender {
     let mut out = [0u8; 1232];
     sent(name, s, store, tick, block, &mut out)
 }
 
 // A new block, with room for so many bytes.
-pub fn sends_into(
+pub(crate) fn sends_into(
     name: &[u8],
     s: Sender,
     store: &mut [u8],
@@ -97,14 +97,14 @@ pub fn sends_into(
 }
 
 // A new block of one byte, without a line.
-pub fn adds(s: Sender, store: &mut [u8], tick: u32) -> Sender {
+pub(crate) fn adds(s: Sender, store: &mut [u8], tick: u32) -> Sender {
     let mut out = [0u8; 1232];
     let got = sending::send(s, store, tick, b"a", &mut out);
     got.sender
 }
 
 // Where both ranges stand.
-pub fn stands(name: &[u8], s: Sender) {
+pub(crate) fn stands(name: &[u8], s: Sender) {
     io::write_all(1, name);
     ranges(s);
 }
@@ -121,7 +121,7 @@ fn resent(name: &[u8], s: Sender, store: &[u8], tick: u32, out: &mut [u8]) -> Se
 }
 
 // A resend, with room for so many bytes.
-pub fn resends(name: &[u8], s: Sender, store: &[u8], tick: u32, room: usize) -> Sender
+pub(crate) fn resends(name: &[u8], s: Sender, store: &[u8], tick: u32, room: usize) -> Sender
     requires { ⌜ room ≤ 1232 ⌝ }
 {
     let mut out = [0u8; 1232];
@@ -180,21 +180,21 @@ fn lent(name: &[u8], s: Sender, written: &[u8], k: usize) -> Sender {
 }
 
 // An ACK of every number up to one.
-pub fn acknowledges(name: &[u8], s: Sender, upto: u16) -> Sender {
+pub(crate) fn acknowledges(name: &[u8], s: Sender, upto: u16) -> Sender {
     let mut datagram = [0u8; 64];
     let k = count(writer::write(told(0x001, upto, 0, 0), b"", b"", b"", &mut datagram));
     lent(name, s, &datagram, k)
 }
 
 // A vector of these bytes.
-pub fn lists(name: &[u8], s: Sender, base: u16, size: u8, coded: &[u8]) -> Sender {
+pub(crate) fn lists(name: &[u8], s: Sender, base: u16, size: u8, coded: &[u8]) -> Sender {
     let mut datagram = [0u8; 64];
     let k = count(writer::write(told(0x008, 0, base, size), b"", coded, b"", &mut datagram));
     lent(name, s, &datagram, k)
 }
 
 // A sweep.
-pub fn sweeps(name: &[u8], s: Sender, tick: u32) -> Sender {
+pub(crate) fn sweeps(name: &[u8], s: Sender, tick: u32) -> Sender {
     let got = sweeping::sweep(s, tick);
     let q = got.sender;
     io::write_all(1, name);
@@ -205,7 +205,7 @@ pub fn sweeps(name: &[u8], s: Sender, tick: u32) -> Sender {
 }
 
 // What stands at a number's place, and at its block's.
-pub fn shows(name: &[u8], s: Sender, n: u64) {
+pub(crate) fn shows(name: &[u8], s: Sender, n: u64) {
     let p = s.numbers[window::data_place(n)];
     let c = p.channel.0;
     let b = s.blocks[window::channel_place(c)];
