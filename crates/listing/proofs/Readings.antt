@@ -4,11 +4,12 @@ use mathlib.Core.List.{_++_, append-assoc, append-nil}
 use mathlib.Core.Path.{_≡_, refl}
 use Rattle.text.specs.Ascii.{ascii}
 use Rattle.text.specs.Decimal.{decimalOf}
+use Rattle.text.specs.Lines.{under}
 use Rattle.wire.specs.declared.Packet.{Packet}
 use Rattle.wire.specs.declared.Reading.{Reading}
 use Rattle.wire.specs.declared.Reading.the-variants.{Refused, Dummy, Read}
 use Rattle.listing.specs.Lines.{packetLines, linesFor}
-use Rattle.listing.specs.Parts.{under, headLines, middleLines, tailLines}
+use Rattle.listing.specs.Parts.{headLines, middleLines, tailLines}
 
 -- the twelve lines in their three parts
 pub packet-parts : (p : Packet)

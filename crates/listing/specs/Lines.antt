@@ -2,12 +2,12 @@
 -- gap, n, scale; delay= maximum, timeout; vec= base, size, time or `-`, separated by commas." Every number is in decimal, and each line ends
 -- with a newline.
 use Prim.Native.Nat.{ℕ}
-use Prim.Native.String.{String}
 use mathlib.Core.Bool.{Bool, cond}
 use mathlib.Core.List.{List, [], _∷_, _++_}
 use Rattle.common.specs.Put.{joined}
 use Rattle.text.specs.Ascii.{ascii}
 use Rattle.text.specs.Decimal.{decimalOf}
+use Rattle.text.specs.Lines.{line, comma}
 use Rattle.wire.specs.declared.Ack.{Ack}
 use Rattle.wire.specs.declared.Delay.{Delay}
 use Rattle.wire.specs.declared.Vector.{Vector}
@@ -18,17 +18,9 @@ use Rattle.wire.specs.Flags.{ackIn, dataIn, vectorIn, aoaIn, overheadIn, delayI
 use Rattle.wire.specs.Read.{numberOf, readOf}
 use Rattle.common.specs.Answer.{roomAnswer}
 
--- a line: key, `=`, value, newline
-abbrev pub line : String → List ℕ → List ℕ
-line key value = joined (ascii key ∷ ascii "=" ∷ value ∷ ascii "\n" ∷ [])
-
 -- "Absent is `-`."
 abbrev pub orDash : Bool → List ℕ → List ℕ
 orDash present value = cond present value (ascii "-")
-
--- "separated by commas"
-abbrev pub comma : List ℕ → List ℕ → List ℕ
-comma a b = joined (a ∷ ascii "," ∷ b ∷ [])
 
 -- "ack= gives number, time, gap, n, scale"
 abbrev pub ackText : Ack → List ℕ

@@ -1,22 +1,12 @@
 -- The listing in parts, as one function after the other writes it.
-use Prim.Native.Nat.{ℕ, _+_, _≤_}
+use Prim.Native.Nat.{ℕ}
 use mathlib.Core.List.{List, [], _∷_}
 use Rattle.common.specs.Put.{joined}
-use Rattle.common.specs.Laid.{Laid}
-use Rattle.text.specs.Ascii.{ascii}
 use Rattle.text.specs.Decimal.{decimalOf}
+use Rattle.text.specs.Lines.{line}
 use Rattle.wire.specs.declared.Values.{Values}
 use Rattle.wire.specs.Flags.{ackIn, dataIn, vectorIn, aoaIn, overheadIn, delayIn}
-use Rattle.listing.specs.Lines.{line, orDash, ackText, delayText, vectorText}
-
--- b was laid over d from place at on, and has at most k bytes
-pub record LaidWithin (k : ℕ) (b d : List ℕ) (at : ℕ) (e : List ℕ) (r : ℕ) : Type 0 where
-  pub laid : Laid d at b e r
-  pub room : r ≤ at + k
-
--- a value under its key, which ends with `=`
-abbrev pub under : List ℕ → List ℕ → List ℕ
-under key value = joined (key ∷ value ∷ ascii "\n" ∷ [])
+use Rattle.listing.specs.Lines.{orDash, ackText, delayText, vectorText}
 
 -- the twelve lines, four at a time
 unfoldable pub headLines : Values → List ℕ

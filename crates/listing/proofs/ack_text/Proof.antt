@@ -1,7 +1,7 @@
 -- `ack_text` meets its contract: each number stands with its comma before the next.
 use native.Mathlib.Omega.{arith}
 use borrow.Author.Needs.{needs}
-use Rattle.listing.proofs.Runs.{within-decimal, within-comma}
+use Rattle.text.specs.Within.{within-decimal, within-comma}
 use Rattle.listing.proofs.ack_text.Statement.{statement}
 use Rattle.listing.proofs.ack_text.Tie as tie
 

@@ -1,7 +1,7 @@
 -- `delay_text` meets its contract: the first number stands with its comma before the second.
 use native.Mathlib.Omega.{arith}
 use borrow.Author.Needs.{needs}
-use Rattle.listing.proofs.Runs.{within-decimal, within-comma}
+use Rattle.text.specs.Within.{within-decimal, within-comma}
 use Rattle.listing.proofs.delay_text.Statement.{statement}
 use Rattle.listing.proofs.delay_text.Tie as tie
 

@@ -2,7 +2,7 @@
 use native.Mathlib.Omega.{arith}
 use borrow.Author.Needs.{needs}
 use Rattle.listing.specs.Parts.{headLines}
-use Rattle.listing.proofs.Runs.{within-length, within-four}
+use Rattle.text.specs.Within.{within-length, within-four}
 use Rattle.listing.proofs.head_lines.Statement.{statement}
 use Rattle.listing.proofs.head_lines.Tie as tie
 

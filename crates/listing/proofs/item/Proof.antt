@@ -1,7 +1,7 @@
 -- `item` meets its contract: the comma follows the digits, and there are at most 20 of them.
 use native.Mathlib.Omega.{arith}
 use borrow.Author.Needs.{needs}
-use Rattle.listing.proofs.Runs.{within, within-decimal, within-then}
+use Rattle.text.specs.Within.{within, within-decimal, within-then}
 use Rattle.listing.proofs.item.Statement.{statement}
 use Rattle.listing.proofs.item.Tie as tie
 

@@ -1,7 +1,7 @@
 -- `middle_lines` meets its contract: four lines are laid one after the other.
 use borrow.Author.Needs.{needs}
 use Rattle.listing.specs.Parts.{middleLines}
-use Rattle.listing.proofs.Runs.{within-four}
+use Rattle.text.specs.Within.{within-four}
 use Rattle.listing.proofs.middle_lines.Statement.{statement}
 use Rattle.listing.proofs.middle_lines.Tie as tie
 

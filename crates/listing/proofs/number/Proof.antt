@@ -1,7 +1,8 @@
 -- `number` meets its contract: a decimal of 64 bits, or one byte, is at most 20 bytes.
 use native.Mathlib.Omega.{arith}
 use borrow.Author.Needs.{needs}
-use Rattle.listing.proofs.Runs.{within, within-decimal, within-present, within-absent}
+use Rattle.text.specs.Within.{within, within-decimal}
+use Rattle.listing.proofs.Runs.{within-present, within-absent}
 use Rattle.listing.proofs.number.Statement.{statement}
 use Rattle.listing.proofs.number.Tie as tie
 

@@ -1,7 +1,7 @@
 -- `number_line` meets its contract: key, value and newline are laid one after the other.
 use native.Mathlib.Omega.{arith}
 use borrow.Author.Needs.{needs}
-use Rattle.listing.proofs.Runs.{within, within-line}
+use Rattle.text.specs.Within.{within, within-line}
 use Rattle.listing.proofs.number_line.Statement.{statement}
 use Rattle.listing.proofs.number_line.Tie as tie
 

@@ -1,6 +1,6 @@
 -- `packet_lines` meets its contract: the twelve lines are those of the three parts.
 use borrow.Author.Needs.{needs}
-use Rattle.listing.proofs.Runs.{within-as, within-then}
+use Rattle.text.specs.Within.{within-as, within-then}
 use Rattle.listing.proofs.Readings.{packet-parts}
 use Rattle.listing.proofs.packet_lines.Statement.{statement}
 use Rattle.listing.proofs.packet_lines.Tie as tie

@@ -1,7 +1,7 @@
 -- `reading_lines` meets its contract, a law for each kind of reading.
 use native.Mathlib.Omega.{arith}
 use borrow.Author.Needs.{needs}
-use Rattle.listing.proofs.Runs.{within-as, within-wider, within-then}
+use Rattle.text.specs.Within.{within-as, within-wider, within-then}
 use Rattle.listing.proofs.Readings.{refused-lines, dummy-lines, read-lines}
 use Rattle.listing.proofs.reading_lines.Statement.{statement}
 use Rattle.listing.proofs.reading_lines.Tie as tie

@@ -3,7 +3,8 @@ use mathlib.Core.Path.{sym, _∙_}
 use native.Mathlib.Omega.{arith}
 use borrow.Author.Needs.{needs}
 use Rattle.text.specs.Ascii.{ascii}
-use Rattle.listing.proofs.Runs.{within, within-line, within-present, within-dash}
+use Rattle.text.specs.Within.{within, within-line}
+use Rattle.listing.proofs.Runs.{within-present, within-dash}
 use Rattle.listing.proofs.vector_line.Statement.{statement}
 use Rattle.listing.proofs.vector_line.Tie as tie
 

@@ -1,6 +1,6 @@
 -- `vector_text` meets its contract: each number stands with its comma before the next.
 use borrow.Author.Needs.{needs}
-use Rattle.listing.proofs.Runs.{within-comma}
+use Rattle.text.specs.Within.{within-comma}
 use Rattle.listing.proofs.vector_text.Statement.{statement}
 use Rattle.listing.proofs.vector_text.Tie as tie
 

@@ -1,0 +1,259 @@
+-- One line's step, a law for each way out.
+use Prim.Native.Nat.{ℕ, _+_, _*_, _≤_, _<_}
+use mathlib.Core.Bool.{Bool, true, false, cond}
+use mathlib.Core.List.{List, [], _∷_}
+use mathlib.Core.Logic.{⊎-elim}
+use mathlib.Core.Path.{_≡_, refl, sym, _∙_, ap}
+use native.Mathlib.Omega.{arith}
+use borrow.Author.Tests.{eq-eqb, ne-eqb, eqb-true, eqb-false, le-ltb}
+use lib.ListN.{length, take, drop, length-drop}
+use lib.Seq.{take-at}
+use lib.Dec.{eqb, ltb}
+use Rattle.common.specs.declared.Written.the-variants.{Refused, Wrote}
+use Rattle.common.specs.Put.{putOf, put-front}
+use Rattle.common.specs.Order.{test, first, first-skip, first-none}
+use Rattle.common.specs.Answer.{writtenOf, leftOf}
+use Rattle.common.specs.EveryLaws.{every-at}
+use Rattle.common.specs.Facts.{bool, clash, not-so}
+use Rattle.common.specs.Laid.{laid-nothing}
+use Rattle.text.specs.Ascii.{ascii}
+use Rattle.text.specs.Within.{LaidWithin, within, within-as}
+use Rattle.trace.specs.declared.Cursor.{Cursor}
+use Rattle.trace.specs.declared.reading.Value.{Value}
+use Rattle.trace.specs.declared.reading.Value.the-variants.{Bad, Given}
+use Rattle.trace.specs.declared.reading.Pair.{Pair}
+use Rattle.trace.specs.declared.reading.Pair.the-variants as pair
+use Rattle.trace.specs.Words.{same, startsWith}
+use Rattle.trace.specs.Numbers.{numberUnder, firstOf, onNumber, onPair}
+use Rattle.trace.specs.Kinds.{kindOf, carries}
+use Rattle.trace.specs.Hex.{hexGood}
+use Rattle.trace.specs.Read.{dueOf, firstRead, timeoutRead, tickRead, kindRead, atFormat, atEdition, atFirst, atTimeout, atTick, atKind, nextOf, dataGood, dataBytes, dataAnswer}
+use Rattle.trace.specs.WordsLaws.{starts-length, numberUnder-long, kindOf-long}
+use Rattle.trace.specs.HexLaws.{hex-halves}
+use Rattle.endpoint.specs.declared.Opened.{Opened}
+use Rattle.endpoint.specs.Fresh.{endpointOf}
+use Rattle.endpoint.specs.Calls.{Endpoint, receives, sends, resends, takes, sweeps, acknowledges}
+use Rattle.replayer.specs.declared.State.{State}
+use Rattle.replayer.specs.declared.calling.Called.{Called}
+use Rattle.replayer.specs.Asks.{callBy, isSweep, answerLine, answerFor}
+use Rattle.replayer.specs.Steps.{Machine, machine, dataRead, called, callAt, openedBy, openWith, opensAt, opening, stepOf, stepText}
+use Rattle.replayer.specs.Does.{Does, paid, Steps, machineOf}
+
+-- The line of data, read into a buffer of 32,768 bytes or more: it is refused where it is badly written, and for nothing else.
+
+data-size : (l : List ℕ) → length l ≤ 65536 → length (dataBytes l) ≤ 32768
+unfolding dataBytes
+data-size l h = omega (arith, hex-halves (drop 5 l), length-drop 5 l)
+
+module _ (k : ℕ) (l : List ℕ) (room : ℕ) (big : 32768 ≤ room) (short : length l ≤ 65536) where
+  accepted : dataGood k l ≡ true → 0 ≡ dataAnswer k l room
+  unfolding dataAnswer
+  accepted g = first-none ∙ first-skip _ 14 _ (le-ltb room (length (dataBytes l)) (omega (arith, data-size l short))) ∙ first-skip _ 16 _ (rw g refl)
+
+  refused : dataGood k l ≡ false → 16 ≡ dataAnswer k l room
+  unfolding dataAnswer first
+  refused g = rw g refl
+
+  pub data-refused : {n : ℕ} → Refused n ≡ writtenOf (dataAnswer k l room) (dataBytes l) → dataGood k l ≡ false
+  unfolding writtenOf
+  data-refused {n} w =
+      not-so (dataGood k l)
+      (λ g. let e : Refused n ≡ Wrote (length (dataBytes l)) = rw (← accepted g) at w in let z : _≡_ {A = ℕ} 0 1 = cc in absurd (omega arith))
+
+  pub data-wrote : {n : ℕ} → Wrote n ≡ writtenOf (dataAnswer k l room) (dataBytes l) → dataGood k l ≡ true
+  unfolding writtenOf
+  data-wrote {n} w =
+      ⊎-elim
+      (λ g. g)
+      (λ g. let e : Wrote n ≡ Refused 16 = rw (← refused g) at w in let z : _≡_ {A = ℕ} 0 1 = cc in absurd (omega arith))
+      (bool (dataGood k l))
+
+  -- how many bytes were read, and which
+  pub data-count : {n : ℕ} → Wrote n ≡ writtenOf (dataAnswer k l room) (dataBytes l) → n ≡ length (dataBytes l)
+  unfolding writtenOf
+  data-count {n} w = let e : Wrote n ≡ Wrote (length (dataBytes l)) = rw (← accepted (data-wrote w)) at w in cc
+
+  pub data-taken : {n : ℕ} {b : List ℕ} (z : List ℕ) → Wrote n ≡ writtenOf (dataAnswer k l room) (dataBytes l)
+      → b ≡ leftOf (dataAnswer k l room) (dataBytes l) z → take n b ≡ dataBytes l
+  unfolding leftOf
+  data-taken {n} {b} z w q =
+      let p : b ≡ putOf z 0 (dataBytes l) = rw (← accepted (data-wrote w)) at q in
+      ap (take n) (p ∙ put-front z (dataBytes l)) ∙ take-at (dataBytes l) (drop (length (dataBytes l)) z) n (sym (data-count w))
+
+  pub data-fits : {n : ℕ} → Wrote n ≡ writtenOf (dataAnswer k l room) (dataBytes l) → n ≤ 32768
+  data-fits w = omega (arith, data-count w, data-size l short)
+
+data-long : (k : ℕ) (l : List ℕ) → dataGood k l ≡ true → 5 ≤ length l
+unfolding dataGood
+data-long k l g =
+    starts-length (ascii "data=") l (every-at (startsWith (ascii "data=") l ∷ hexGood (drop 5 l) ∷ cond (carries k) true (eqb (length l) 5) ∷ []) g 0)
+
+-- an event's call is a sweep exactly if its kind is
+sweep-of : (tick : ℕ) (bytes : List ℕ) (a b c d e : Bool) → (a ≡ true → e ≡ false) → (b ≡ true → e ≡ false) → (c ≡ true → e ≡ false) → (d ≡ true → e ≡ false)
+    → isSweep (cond a (receives bytes) (cond b (sends tick bytes 1232) (cond c (resends tick 1232) (cond d (takes 1232) (cond e (sweeps tick) (acknowledges tick 0 1232)))))) ≡ e
+unfolding isSweep
+sweep-of tick bytes true b c d e p q r s = sym (p refl)
+sweep-of tick bytes false true c d e p q r s = sym (q refl)
+sweep-of tick bytes false false true d e p q r s = sym (r refl)
+sweep-of tick bytes false false false true e p q r s = sym (s refl)
+sweep-of tick bytes false false false false true p q r s = refl
+sweep-of tick bytes false false false false false p q r s = refl
+
+pub sweep-by : (kind tick : ℕ) (bytes : List ℕ) → isSweep (callBy kind tick bytes) ≡ eqb kind 5
+unfolding callBy
+sweep-by kind tick bytes =
+    let no : (n : ℕ) → (n ≡ 5 → ⊥) → eqb kind n ≡ true → eqb kind 5 ≡ false = λ n h e. ne-eqb kind 5 (λ q. h (sym (eqb-true kind n e) ∙ q)) in
+    sweep-of tick bytes (eqb kind 1) (eqb kind 2) (eqb kind 3) (eqb kind 4) (eqb kind 5)
+    (no 1 (λ q. omega arith)) (no 2 (λ q. omega arith)) (no 3 (λ q. omega arith)) (no 4 (λ q. omega arith))
+
+-- The ways out of a line of data.
+
+paid-six : paid 6 ≡ 60
+unfolding paid
+paid-six = refl
+
+paid-four : paid 4 ≡ 0
+unfolding paid
+paid-four = refl
+
+paid-seven : paid 7 ≡ 0
+unfolding paid
+paid-seven = refl
+
+-- nothing is written
+nothing : {b : List ℕ} (d : List ℕ) (at : ℕ) → b ≡ [] → LaidWithin 30 b d at d at
+nothing d at e = within-as (sym e) (within 30 (omega arith) (laid-nothing d at))
+
+module _ (s : State) (l out : List ℕ) (at : ℕ) where
+  pub line-refused : (store sent : List ℕ) (q : Cursor) → s .cursor .due ≡ 6 → dataGood (s .cursor .kind) l ≡ false → q ≡ dueOf (s .cursor) 7
+      → Steps (machineOf s store sent) l out at (record { cursor = q; sender = s .sender; receiver = s .receiver }) store sent out at
+  unfolding stepOf called stepText dataRead
+  line-refused store sent q h g e =
+      record {
+        left = rw (eq-eqb _ _ h, g, e) refl;
+        text = nothing out at (rw (eq-eqb _ _ h, g) refl);
+        room = omega (arith, paid-seven, ap (λ (c : Cursor). paid (c .due)) e);
+      }
+
+  pub line-called : (store sent store′ sent′ out′ : List ℕ) (bytes : List ℕ) (x : Called) (r : ℕ) (q : Cursor) → s .cursor .due ≡ 6
+      → dataGood (s .cursor .kind) l ≡ true → q ≡ dueOf (s .cursor) 4 → bytes ≡ dataBytes l
+      → Does (machineOf s store sent .endpoint) (callBy (s .cursor .kind) (s .cursor .tick) bytes) x store′ sent′
+      → LaidWithin 30 (answerLine (eqb (s .cursor .kind) 5) (x .answer) (x .lost)) out at out′ r
+      → Steps (machineOf s store sent) l out at (record { cursor = q; sender = x .sender; receiver = x .receiver }) store′ sent′ out′ r
+  unfolding stepOf called stepText dataRead answerFor
+  line-called store sent store′ sent′ out′ bytes x r q h g k b y z =
+      record {
+        left = rw (eq-eqb _ _ h, g, ← b, k) (ap (λ (e : Endpoint). machine (dueOf (s .cursor) 4) e) (y .left));
+        text = within-as (rw (eq-eqb _ _ h, g, ← b, y .answer, y .lost, sweep-by (s .cursor .kind) (s .cursor .tick) bytes) refl) z;
+        room = omega (arith, paid-four, ap (λ (c : Cursor). paid (c .due)) k, ap paid h, paid-six, data-long (s .cursor .kind) l g, z .room);
+      }
+
+-- The ways out of any other line.
+
+-- a tick line and a kind line pay for an answer by their length
+tick-paid : (c : Cursor) (l : List ℕ) (v : Value) → numberUnder (ascii "tick=") l ≡ v → paid (onNumber v (λ t. tickRead c t) (dueOf c 7) .due) ≤ 5 * (length l + 1)
+unfolding paid
+tick-paid c l Bad h = omega arith
+tick-paid c l (Given n) h = omega (arith, numberUnder-long (ascii "tick=") l n h)
+
+kind-paid : (c : Cursor) (l : List ℕ) (b : Bool) → eqb (kindOf l) 0 ≡ b → paid (cond b (dueOf c 7) (kindRead c (kindOf l)) .due) ≤ 30 + 5 * (length l + 1)
+unfolding paid
+kind-paid c l true h = omega arith
+kind-paid c l false h = omega (arith, kindOf-long l (λ e. clash true refl (sym (eq-eqb (kindOf l) 0 e) ∙ h)))
+
+first-paid : (c : Cursor) (v : Pair) → paid (onPair v (λ d h. firstRead c d h) (dueOf c 8) .due) ≡ 0
+unfolding paid
+first-paid c pair.Bad = refl
+first-paid c (pair.Both d h) = refl
+
+timeout-paid : (c : Cursor) (v : Value) → paid (onNumber v (λ t. timeoutRead c t) (dueOf c 8) .due) ≡ 0
+unfolding paid
+timeout-paid c Bad = refl
+timeout-paid c (Given t) = refl
+
+paid-free : (n : ℕ) → (n ≡ 5 → ⊥) → (n ≡ 6 → ⊥) → paid n ≡ 0
+unfolding paid
+paid-free n h g = rw (ne-eqb n 5 h, ne-eqb n 6 g) refl
+
+fixed-paid : (b : Bool) (n : ℕ) → paid n ≡ 0 → paid (cond b n 8) ≡ 0
+unfolding paid
+fixed-paid true n h = h
+fixed-paid false n h = refl
+
+choose : (b : Bool) (x y : Cursor) (k : ℕ) → (b ≡ true → paid (x .due) ≤ k) → paid (y .due) ≤ k → paid (cond b x y .due) ≤ k
+choose true x y k f g = f refl
+choose false x y k f g = g
+
+paid-five : paid 5 ≡ 30
+unfolding paid
+paid-five = refl
+
+next-paid : (c : Cursor) (l : List ℕ) → paid (nextOf c l .due) ≤ paid (c .due) + 5 * (length l + 1)
+unfolding nextOf atFormat atEdition atFirst atTimeout atTick atKind
+next-paid c l =
+    choose (eqb (c .due) 0) _ _ _ (λ e. omega (arith, fixed-paid (same l (ascii "format=counter-trace")) 1 (paid-free 1 (λ q. omega arith) (λ q. omega arith))))
+    (choose (eqb (c .due) 1) _ _ _ (λ e. omega (arith, fixed-paid (same l (ascii "edition=1")) 2 (paid-free 2 (λ q. omega arith) (λ q. omega arith))))
+    (choose (eqb (c .due) 2) _ _ _ (λ e. omega (arith, first-paid c (firstOf l)))
+    (choose (eqb (c .due) 3) _ _ _ (λ e. omega (arith, timeout-paid c (numberUnder (ascii "timeout=") l)))
+    (choose (eqb (c .due) 4) _ _ _ (λ e. omega (arith, tick-paid c l (numberUnder (ascii "tick=") l) refl))
+    (choose (eqb (c .due) 5) _ _ _ (λ e. omega (arith, ap paid (eqb-true (c .due) 5 e), paid-five, kind-paid c l (eqb (kindOf l) 0) refl)) (omega arith))))))
+
+opens-both : (a b : ℕ) → opensAt a b ≡ true → (a ≡ 3) × (b ≡ 4)
+unfolding opensAt
+opens-both a b h = by (eqb a 3) refl h
+  where
+    by : (t : Bool) → eqb a 3 ≡ t → cond t (eqb b 4) false ≡ true → (a ≡ 3) × (b ≡ 4)
+    by true e q = (eqb-true a 3 e, eqb-true b 4 q)
+    by false e q = clash false q refl
+
+opened-paid : (c : Cursor) (o : Opened) → c .due ≡ 4 → paid (openedBy c o) ≡ 0
+unfolding openedBy
+opened-paid c o h = by (eqb (o .answer) 0)
+  where
+    by : (t : Bool) → paid (cond t (c .due) 9) ≡ 0
+    by true = ap paid h ∙ paid-four
+    by false = paid-free 9 (λ q. omega arith) (λ q. omega arith)
+
+step-opens : (s : State) (l store sent : List ℕ) (c : Cursor) → (s .cursor .due ≡ 6 → ⊥) → c ≡ nextOf (s .cursor) l → s .cursor .due ≡ 3 → c .due ≡ 4
+    → stepOf (machineOf s store sent) l ≡ machine (dueOf c (openedBy c (openWith c))) (endpointOf (openWith c) store sent)
+unfolding stepOf opening
+step-opens s l store sent c h e p q = rw (ne-eqb _ _ h, eq-eqb _ _ p, ← e, eq-eqb _ _ q) refl
+
+step-goes : (s : State) (l store sent : List ℕ) (c : Cursor) → (s .cursor .due ≡ 6 → ⊥) → c ≡ nextOf (s .cursor) l
+    → opensAt (s .cursor .due) (c .due) ≡ false → machine c (machineOf s store sent .endpoint) ≡ stepOf (machineOf s store sent) l
+unfolding stepOf opening opensAt
+step-goes s l store sent c h e o = rw (ne-eqb _ _ h, ← e) (by (eqb (s .cursor .due) 3) o)
+  where
+    by : (t : Bool) → cond t (eqb (c .due) 4) false ≡ false
+        → machine c (machineOf s store sent .endpoint) ≡ cond t (opening (machineOf s store sent) c) (machine c (machineOf s store sent .endpoint))
+    by true q = rw q refl
+    by false q = refl
+
+step-silent : (s : State) (l store sent : List ℕ) → (s .cursor .due ≡ 6 → ⊥) → stepText (machineOf s store sent) l ≡ []
+unfolding stepText dataRead
+step-silent s l store sent h = rw (ne-eqb _ _ h) refl
+
+module _ (s : State) (l out : List ℕ) (at : ℕ) (store sent : List ℕ) where
+  -- the line that opens the endpoint
+  pub line-opens : (c : Cursor) (q : State) → (s .cursor .due ≡ 6 → ⊥) → c ≡ nextOf (s .cursor) l → opensAt (s .cursor .due) (c .due) ≡ true
+      → q .cursor ≡ dueOf c (openedBy c (openWith c)) → q .sender ≡ openWith c .sender → q .receiver ≡ openWith c .receiver
+      → Steps (machineOf s store sent) l out at q store sent out at
+  line-opens c q h e o a b d =
+      let t = opens-both (s .cursor .due) (c .due) o in
+      let m : machineOf q store sent ≡ machine (dueOf c (openedBy c (openWith c))) (endpointOf (openWith c) store sent) = rw (a, b, d) refl in
+      let p : paid (q .cursor .due) ≡ 0 = ap (λ (x : Cursor). paid (x .due)) a ∙ opened-paid c (openWith c) (t .1) in
+      record {
+        left = m ∙ sym (step-opens s l store sent c h e (t .0) (t .1));
+        text = nothing out at (step-silent s l store sent h);
+        room = omega arith;
+      }
+
+  -- and any other
+  pub line-goes : (c : Cursor) → (s .cursor .due ≡ 6 → ⊥) → c ≡ nextOf (s .cursor) l → opensAt (s .cursor .due) (c .due) ≡ false
+      → Steps (machineOf s store sent) l out at (record { cursor = c; sender = s .sender; receiver = s .receiver }) store sent out at
+  line-goes c h e o =
+      record {
+        left = step-goes s l store sent c h e o;
+        text = nothing out at (step-silent s l store sent h);
+        room = omega (arith, next-paid (s .cursor) l, ap (λ (x : Cursor). paid (x .due)) e);
+      }

@@ -1,0 +1,75 @@
+-- `data_line` meets its contract: the line is refused where it is badly written, and else its event's call is made and answered.
+use mathlib.Core.Path.{sym, _∙_}
+use native.Mathlib.Omega.{arith}
+use Prim.Native.Nat.{ℕ}
+use lib.ListN.{length-replicate}
+use lib.Seq.{length-take-le}
+use Rattle.replayer.proofs.OneLine.{data-refused, data-wrote, data-taken, data-fits, line-refused, line-called}
+use borrow.Author.Needs.{needs}
+use Rattle.replayer.proofs.data_line.Statement.{statement}
+use Rattle.replayer.proofs.data_line.Tie as tie
+
+slice-aggregate-read : tie.Need-slice-aggregate-read
+slice-aggregate-read c = search needs
+
+read-requires : tie.Need-read-requires
+read-requires c κs = search needs
+
+enum-told : tie.Need-enum-told
+enum-told c = search needs
+
+waiting-requires : tie.Need-waiting-requires
+waiting-requires c κs = search needs
+
+enum-known-n : tie.Need-enum-known-n
+enum-known-n c = search needs
+
+array-share-prefix-bytes : tie.Need-array-share-prefix-bytes
+array-share-prefix-bytes c = omega (arith, data-fits _ _ _ (omega (arith, length-replicate {A = ℕ} 32768 0)) (c .before .before .before .before .before .before .before .before .before .before .before .before .before .before .before .pre .1) (sym (c .before .before .before .n .given .1) ∙ c .before .before .before .before .before .before .read .ensures .0))
+
+slice-aggregate-call : tie.Need-slice-aggregate-call
+slice-aggregate-call c = sym (length-take-le _ _ (array-share-prefix-bytes (c .before)))
+
+call-requires : tie.Need-call-requires
+call-requires c κs = search needs
+
+answer-line-requires : tie.Need-answer-line-requires
+answer-line-requires c κs = c .before .before .before .before .before .before .before .before .before .before .before .before .before .before .before .before .before .before .before .before .before .before .before .pre .0
+
+waiting-requires-2 : tie.Need-waiting-requires-2
+waiting-requires-2 c κs = search needs
+
+returns : tie.Need-returns
+returns c = line-refused (c .before .before .before .before .before .before .before .before .before .before .before .before .before .args .s) _ _ _ _ _ _ (c .before .before .before .before .before .before .before .before .before .before .before .before .before .pre .2) (data-refused _ _ _ (omega (arith, length-replicate {A = ℕ} 32768 0)) (c .before .before .before .before .before .before .before .before .before .before .before .before .before .pre .1) (sym (c .before .enum-told .given .1) ∙ c .before .before .before .before .read .ensures .0)) (c .waiting .ensures)
+
+same-length : tie.Need-same-length
+same-length c = search needs
+
+same-length-2 : tie.Need-same-length-2
+same-length-2 c = search needs
+
+same-length-3 : tie.Need-same-length-3
+same-length-3 c = search needs
+
+returns-2 : tie.Need-returns-2
+returns-2 c = line-called (c .before .before .before .before .before .before .before .before .before .before .before .before .before .before .before .before .before .before .before .before .before .before .before .before .before .before .before .before .before .args .s) _ _ _ _ _ _ _ _ _ _ _ _ (c .before .before .before .before .before .before .before .before .before .before .before .before .before .before .before .before .before .before .before .before .before .before .before .before .before .before .before .before .before .pre .2) (data-wrote _ _ _ (omega (arith, length-replicate {A = ℕ} 32768 0)) (c .before .before .before .before .before .before .before .before .before .before .before .before .before .before .before .before .before .before .before .before .before .before .before .before .before .before .before .before .before .pre .1) (sym (c .before .before .before .before .before .before .before .before .before .before .before .before .before .before .before .before .before .n .given .1) ∙ c .before .before .before .before .before .before .before .before .before .before .before .before .before .before .before .before .before .before .before .before .read .ensures .0)) (c .waiting2 .ensures) (data-taken _ _ _ (omega (arith, length-replicate {A = ℕ} 32768 0)) (c .before .before .before .before .before .before .before .before .before .before .before .before .before .before .before .before .before .before .before .before .before .before .before .before .before .before .before .before .before .pre .1) _ (sym (c .before .before .before .before .before .before .before .before .before .before .before .before .before .before .before .before .before .n .given .1) ∙ c .before .before .before .before .before .before .before .before .before .before .before .before .before .before .before .before .before .before .before .before .read .ensures .0) (c .before .before .before .before .before .before .before .before .before .before .before .before .before .before .before .before .before .before .before .before .read .ensures .1)) (c .before .before .before .before .before .before .before .before .before .before .before .before .call .ensures) (c .before .before .before .before .before .answer-line .ensures)
+
+pub data-line-spec : {M : Type 1} → statement M
+data-line-spec =
+    tie.close
+    (tie.spec
+    slice-aggregate-read
+    read-requires
+    enum-told
+    waiting-requires
+    enum-known-n
+    array-share-prefix-bytes
+    slice-aggregate-call
+    call-requires
+    answer-line-requires
+    waiting-requires-2
+    returns
+    same-length
+    same-length-2
+    same-length-3
+    returns-2)

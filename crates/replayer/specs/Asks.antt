@@ -1,0 +1,74 @@
+-- What an event asks of the endpoint, and what the endpoint answers. "An `ack` takes the tick as its time stamp and gap 0." Every buffer is as long
+-- as the longest datagram, 1,232 bytes, so none is too short.
+use Prim.Native.Nat.{ℕ}
+use mathlib.Core.Bool.{Bool, true, false, cond}
+use mathlib.Core.List.{List, [], _∷_, _++_}
+use lib.Dec.{eqb}
+use Rattle.text.specs.Decimal.{decimalOf}
+use Rattle.text.specs.Lines.{line, comma}
+use Rattle.trace.specs.Read.{Event}
+use Rattle.receiver.specs.Take.{takeAnswer}
+use Rattle.receiver.specs.Acknowledge.{acknowledgeAnswer}
+use Rattle.sender.specs.Send.{newAnswer, resendAnswer}
+use Rattle.sender.specs.Sweep.{sweepAnswer, sweepCount}
+use Rattle.receiver.specs.declared.Receiver.{Receiver}
+use Rattle.sender.specs.declared.Sender.{Sender}
+use Rattle.endpoint.specs.Receive.{halves, receiverOf, receiveAnswer}
+use Rattle.endpoint.specs.Calls.{Endpoint, Call, receives, takes, acknowledges, sends, resends, sweeps, sendingOf, callOf}
+
+-- both halves with the two stores
+abbrev pub endpointWith : Sender → Receiver → List ℕ → List ℕ → Endpoint
+endpointWith s r store sent = record { halves = halves s r store; sent = sent }
+
+-- the call of an event, by its kind: in, send, resend, take, sweep, ack
+unfoldable pub callBy : ℕ → ℕ → List ℕ → Call
+callBy kind tick bytes =
+    cond (eqb kind 1) (receives bytes)
+    (cond (eqb kind 2) (sends tick bytes 1232)
+    (cond (eqb kind 3) (resends tick 1232)
+    (cond (eqb kind 4) (takes 1232) (cond (eqb kind 5) (sweeps tick) (acknowledges tick 0 1232)))))
+
+abbrev pub callFor : Event → Call
+callFor x = callBy (x .kind) (x .tick) (x .bytes)
+
+unfoldable pub callsFor : List Event → List Call
+callsFor [] = []
+callsFor (x ∷ xs) = callFor x ∷ callsFor xs
+
+-- document 01's number for a call, and how many a sweep finds lost
+unfoldable pub answerTo : Endpoint → Call → ℕ
+answerTo e (receives d) = receiveAnswer 32 32 (e .halves) d
+answerTo e (takes room) = takeAnswer 32 32 (receiverOf (e .halves)) room
+answerTo e (acknowledges stamp gap room) = acknowledgeAnswer 32 32 (e .halves .receiver) stamp gap room
+answerTo e (sends tick block room) = newAnswer 32 32 (sendingOf e) block room
+answerTo e (resends tick room) = resendAnswer 32 32 (sendingOf e) room
+answerTo e (sweeps tick) = sweepAnswer 32 32 (e .halves .sender)
+
+unfoldable pub lostTo : Endpoint → Call → ℕ
+lostTo e (receives d) = 0
+lostTo e (takes room) = 0
+lostTo e (acknowledges stamp gap room) = 0
+lostTo e (sends tick block room) = 0
+lostTo e (resends tick room) = 0
+lostTo e (sweeps tick) = sweepCount 32 32 (e .halves .sender) tick
+
+unfoldable pub isSweep : Call → Bool
+isSweep (receives d) = false
+isSweep (takes room) = false
+isSweep (acknowledges stamp gap room) = false
+isSweep (sends tick block room) = false
+isSweep (resends tick room) = false
+isSweep (sweeps tick) = true
+
+-- "one `answer=` line per event (a sweep's is `answer=0,K`, K lost)"
+unfoldable pub answerLine : Bool → ℕ → ℕ → List ℕ
+answerLine sweep n k =
+    line "answer" (cond sweep (cond (eqb n 0) (comma (decimalOf 0) (decimalOf k)) (decimalOf n)) (decimalOf n))
+
+unfoldable pub answerFor : Endpoint → Call → List ℕ
+answerFor e c = answerLine (isSweep c) (answerTo e c) (lostTo e c)
+
+-- the lines of calls one after the other
+unfoldable pub answersFor : Endpoint → List Call → List ℕ
+answersFor e [] = []
+answersFor e (c ∷ cs) = answerFor e c ++ answersFor (callOf 32 32 e c) cs

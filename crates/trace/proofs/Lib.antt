@@ -1,0 +1,6 @@
+-- Laws that the functions' proofs cite.
+mod Words
+mod Numbers
+mod Due
+mod Decoded
+mod Texts

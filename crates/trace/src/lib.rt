@@ -1,0 +1,65 @@
+// A counter's morning as text (document 02, W1): four head lines, then three lines for each event. Lines are read one at a time, with a cursor by
+// value between them, and written into lent buffers. Nothing here knows an endpoint.
+pub mod data;
+pub mod reading;
+pub mod writing;
+
+// The first line, which the reader compares and the writer writes, and the second.
+pub const FORMAT: [u8; 20] = *b"format=counter-trace";
+
+pub const EDITION: [u8; 9] = *b"edition=1";
+
+// Which line is due.
+pub const FORMAT_DUE: u8 = 0;
+
+pub const EDITION_DUE: u8 = 1;
+
+pub const FIRST_DUE: u8 = 2;
+
+pub const TIMEOUT_DUE: u8 = 3;
+
+pub const TICK_DUE: u8 = 4;
+
+pub const KIND_DUE: u8 = 5;
+
+pub const DATA_DUE: u8 = 6;
+
+// No line is due any more: one of an event was refused, or one of the head.
+pub const BROKEN: u8 = 7;
+
+pub const HEADLESS: u8 = 8;
+
+// The kinds of event; 0 is none.
+pub const IN: u8 = 1;
+
+pub const SEND: u8 = 2;
+
+pub const RESEND: u8 = 3;
+
+pub const TAKE: u8 = 4;
+
+pub const SWEEP: u8 = 5;
+
+pub const ACK: u8 = 6;
+
+// The byte that ends a line.
+pub const NEWLINE: u8 = 10;
+
+// The highest number in a trace.
+pub const HIGHEST: u64 = 4294967295;
+
+// What stands between two lines: which line is due, and what the lines so far said.
+pub struct Cursor {
+    // Which line is due, or why none is.
+    pub due: u8,
+    // The first data number.
+    pub firstdata: u32,
+    // The first channel number.
+    pub firstchannel: u32,
+    // The loss timeout.
+    pub timeout: u32,
+    // The tick of the event that is being read, or of the last.
+    pub tick: u32,
+    // The kind of the event that is being read, or of the last.
+    pub kind: u8,
+}
