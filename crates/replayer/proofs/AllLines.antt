@@ -7,7 +7,7 @@ use lib.ListN.{length, take, drop, length-drop}
 use lib.Seq.{drop-drop}
 use Rattle.common.specs.Laid.{Laid, laid-nothing, laid-then, laid-as}
 use Rattle.text.specs.Within.{LaidWithin, within-length}
-use Rattle.trace.specs.Lines.{upTo, past, linesOf}
+use Rattle.trace.specs.Lines.{upTo, linesOf}
 use Rattle.trace.specs.LinesLaws.{upTo-length, upTo-take, past-drop, lines-first}
 use Rattle.replayer.specs.declared.State.{State}
 use Rattle.replayer.specs.Steps.{Machine, begun, stepOf, stepText, endText, runOf}

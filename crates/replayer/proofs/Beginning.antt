@@ -1,5 +1,4 @@
 -- What opening leaves, and the state before the first line.
-use Prim.Native.Nat.{ℕ}
 use mathlib.Core.Path.{_≡_, refl}
 use borrow.Author.Tests.{eq-eqb, ne-eqb}
 use Rattle.trace.specs.declared.Cursor.{Cursor}

@@ -16,7 +16,7 @@ use Rattle.sender.specs.Record as sending
 use Rattle.sender.specs.Send.{newAnswer, newOf, resendAnswer, resendOf}
 use Rattle.sender.specs.Sweep.{sweepAnswer, sweepCount, sweepOf}
 use Rattle.endpoint.specs.Receive.{halves, receiveAnswer, receiveOf}
-use Rattle.endpoint.specs.Calls.{callOf, receives, sends, resends, takes, sweeps, acknowledges}
+use Rattle.endpoint.specs.Calls.{callOf}
 use Rattle.replayer.specs.declared.calling.Called.{Called}
 use Rattle.replayer.specs.Asks.{endpointWith, callBy, answerTo, lostTo}
 use Rattle.replayer.specs.Does.{Does}

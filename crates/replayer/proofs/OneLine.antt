@@ -1,19 +1,17 @@
 -- One line's step, a law for each way out.
-use Prim.Native.Nat.{ℕ, _+_, _*_, _≤_, _<_}
+use Prim.Native.Nat.{ℕ, _+_, _*_, _≤_}
 use mathlib.Core.Bool.{Bool, true, false, cond}
-use mathlib.Core.List.{List, [], _∷_}
+use mathlib.Core.List.{List, []}
 use mathlib.Core.Logic.{⊎-elim}
 use mathlib.Core.Path.{_≡_, refl, sym, _∙_, ap}
 use native.Mathlib.Omega.{arith}
-use borrow.Author.Tests.{eq-eqb, ne-eqb, eqb-true, eqb-false, le-ltb}
-use lib.ListN.{length, take, drop, length-drop}
+use borrow.Author.Tests.{eq-eqb, ne-eqb, eqb-true}
+use lib.ListN.{length, take, drop}
 use lib.Seq.{take-at}
-use lib.Dec.{eqb, ltb}
+use lib.Dec.{eqb}
 use Rattle.common.specs.declared.Written.the-variants.{Refused, Wrote}
 use Rattle.common.specs.Put.{putOf, put-front}
-use Rattle.common.specs.Order.{test, first, first-skip, first-none}
 use Rattle.common.specs.Answer.{writtenOf, leftOf}
-use Rattle.common.specs.EveryLaws.{every-at}
 use Rattle.common.specs.Facts.{bool, clash, not-so}
 use Rattle.common.specs.Laid.{laid-nothing}
 use Rattle.text.specs.Ascii.{ascii}
@@ -23,36 +21,26 @@ use Rattle.trace.specs.declared.reading.Value.{Value}
 use Rattle.trace.specs.declared.reading.Value.the-variants.{Bad, Given}
 use Rattle.trace.specs.declared.reading.Pair.{Pair}
 use Rattle.trace.specs.declared.reading.Pair.the-variants as pair
-use Rattle.trace.specs.Words.{same, startsWith}
+use Rattle.trace.specs.Words.{same}
 use Rattle.trace.specs.Numbers.{numberUnder, firstOf, onNumber, onPair}
-use Rattle.trace.specs.Kinds.{kindOf, carries}
-use Rattle.trace.specs.Hex.{hexGood}
+use Rattle.trace.specs.Kinds.{kindOf}
 use Rattle.trace.specs.Read.{dueOf, firstRead, timeoutRead, tickRead, kindRead, atFormat, atEdition, atFirst, atTimeout, atTick, atKind, nextOf, dataGood, dataBytes, dataAnswer}
-use Rattle.trace.specs.WordsLaws.{starts-length, numberUnder-long, kindOf-long}
-use Rattle.trace.specs.HexLaws.{hex-halves}
+use Rattle.trace.specs.WordsLaws.{numberUnder-long, kindOf-long}
+use Rattle.trace.specs.DataLaws.{data-long, data-length, data-bad, data-fits}
 use Rattle.endpoint.specs.declared.Opened.{Opened}
 use Rattle.endpoint.specs.Fresh.{endpointOf}
 use Rattle.endpoint.specs.Calls.{Endpoint, receives, sends, resends, takes, sweeps, acknowledges}
 use Rattle.replayer.specs.declared.State.{State}
 use Rattle.replayer.specs.declared.calling.Called.{Called}
 use Rattle.replayer.specs.Asks.{callBy, isSweep, answerLine, answerFor}
-use Rattle.replayer.specs.Steps.{Machine, machine, dataRead, called, callAt, openedBy, openWith, opensAt, opening, stepOf, stepText}
+use Rattle.replayer.specs.Steps.{machine, dataRead, called, openedBy, openWith, opensAt, opening, stepOf, stepText}
 use Rattle.replayer.specs.Does.{Does, paid, Steps, machineOf}
 
 -- The line of data, read into a buffer of 32,768 bytes or more: it is refused where it is badly written, and for nothing else.
 
-data-size : (l : List ℕ) → length l ≤ 65536 → length (dataBytes l) ≤ 32768
-unfolding dataBytes
-data-size l h = omega (arith, hex-halves (drop 5 l), length-drop 5 l)
-
 module _ (k : ℕ) (l : List ℕ) (room : ℕ) (big : 32768 ≤ room) (short : length l ≤ 65536) where
   accepted : dataGood k l ≡ true → 0 ≡ dataAnswer k l room
-  unfolding dataAnswer
-  accepted g = first-none ∙ first-skip _ 14 _ (le-ltb room (length (dataBytes l)) (omega (arith, data-size l short))) ∙ first-skip _ 16 _ (rw g refl)
-
-  refused : dataGood k l ≡ false → 16 ≡ dataAnswer k l room
-  unfolding dataAnswer first
-  refused g = rw g refl
+  accepted g = data-fits k l room g (omega arith)
 
   pub data-refused : {n : ℕ} → Refused n ≡ writtenOf (dataAnswer k l room) (dataBytes l) → dataGood k l ≡ false
   unfolding writtenOf
@@ -65,7 +53,7 @@ module _ (k : ℕ) (l : List ℕ) (room : ℕ) (big : 32768 ≤ room) (short : l
   data-wrote {n} w =
       ⊎-elim
       (λ g. g)
-      (λ g. let e : Wrote n ≡ Refused 16 = rw (← refused g) at w in let z : _≡_ {A = ℕ} 0 1 = cc in absurd (omega arith))
+      (λ g. let e : Wrote n ≡ Refused 16 = rw (← data-bad k l room g) at w in let z : _≡_ {A = ℕ} 0 1 = cc in absurd (omega arith))
       (bool (dataGood k l))
 
   -- how many bytes were read, and which
@@ -80,13 +68,8 @@ module _ (k : ℕ) (l : List ℕ) (room : ℕ) (big : 32768 ≤ room) (short : l
       let p : b ≡ putOf z 0 (dataBytes l) = rw (← accepted (data-wrote w)) at q in
       ap (take n) (p ∙ put-front z (dataBytes l)) ∙ take-at (dataBytes l) (drop (length (dataBytes l)) z) n (sym (data-count w))
 
-  pub data-fits : {n : ℕ} → Wrote n ≡ writtenOf (dataAnswer k l room) (dataBytes l) → n ≤ 32768
-  data-fits w = omega (arith, data-count w, data-size l short)
-
-data-long : (k : ℕ) (l : List ℕ) → dataGood k l ≡ true → 5 ≤ length l
-unfolding dataGood
-data-long k l g =
-    starts-length (ascii "data=") l (every-at (startsWith (ascii "data=") l ∷ hexGood (drop 5 l) ∷ cond (carries k) true (eqb (length l) 5) ∷ []) g 0)
+  pub data-within : {n : ℕ} → Wrote n ≡ writtenOf (dataAnswer k l room) (dataBytes l) → n ≤ 32768
+  data-within w = omega (arith, data-count w, data-length l)
 
 -- an event's call is a sweep exactly if its kind is
 sweep-of : (tick : ℕ) (bytes : List ℕ) (a b c d e : Bool) → (a ≡ true → e ≡ false) → (b ≡ true → e ≡ false) → (c ≡ true → e ≡ false) → (d ≡ true → e ≡ false)

@@ -1,6 +1,5 @@
 // Lines of a replay: an answer, and the full record.
 ghost use Prim.Native.Nat.{_+_, _≤_, _<_};
-ghost use mathlib.Core.List.{_++_};
 ghost use lib.ListN.{length};
 ghost use Rattle.text.specs.Within.{LaidWithin};
 ghost use Rattle.replayer.specs.Asks.{answerLine};

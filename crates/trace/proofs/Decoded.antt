@@ -1,44 +1,20 @@
 -- Laws of the line `data=`: hex digits one by one, and bytes of two digits each.
 use Prim.Native.Nat.{ℕ, zero, suc, _+_, _*_, _-_, _%_, _/_, _≤_, _<_}
-use mathlib.Core.Bool.{Bool, true, false, cond, not}
+use mathlib.Core.Bool.{true, false}
 use mathlib.Core.List.{List, [], _∷_}
 use mathlib.Core.Path.{_≡_, refl, sym, _∙_, ap}
 use native.Mathlib.Numerals.{add-one}
 use native.Mathlib.Omega.{arith}
-use borrow.Author.Tests.{lt-ltb, le-ltb}
 use lib.Dec.{eqb}
-use lib.ListN.{length, take, drop, set, getD, drop-of-length-le, length-take, length-drop}
-use lib.Seq.{take-all, drop-cons, paste, paste-suc, take-length}
+use lib.ListN.{length, take, drop, set, getD, drop-of-length-le}
+use lib.Seq.{drop-cons, paste, paste-suc, take-length}
 use Rattle.common.specs.Choice.{when, unless}
-use Rattle.common.specs.EveryLaws.{every-at}
-use Rattle.common.specs.Facts.{clash}
 use Rattle.common.specs.Laid.{Laid}
-use Rattle.common.specs.Order.{first-here, first-skip, first-none}
 use Rattle.common.specs.Put.{putOf}
-use Rattle.text.specs.Ascii.{ascii}
 use Rattle.trace.specs.Hex.{isHex, hexValue, allHex, hexGood, hexBytes}
-use Rattle.trace.specs.Read.{dataGood, dataBytes, dataAnswer}
-use Rattle.trace.specs.Words.{same, startsWith}
-
--- words that are the same are equally long, so a line that starts with a key is as long as that at least
-same-sizes : (a b : List ℕ) → same a b ≡ true → length a ≡ length b
-unfolding same
-same-sizes [] [] h = refl
-same-sizes [] (y ∷ ys) h = clash false h refl
-same-sizes (x ∷ xs) [] h = clash false h refl
-same-sizes (x ∷ xs) (y ∷ ys) h = go (eqb x y) (same-sizes xs ys) h
-  where
-    go : (t : Bool) → (same xs ys ≡ true → length xs ≡ length ys) → cond t (same xs ys) false ≡ true → suc (length xs) ≡ suc (length ys)
-    go true f e = ap suc (f e)
-    go false f e = clash false e refl
-
-pub starts-long : (key l : List ℕ) → startsWith key l ≡ true → length key ≤ length l
-unfolding startsWith
-starts-long key l h = omega (arith, same-sizes (take (length key) l) key h, length-take (length key) l)
-
--- all that stands behind place k
-pub behind : (k : ℕ) (l : List ℕ) → take (length l - k) (drop k l) ≡ drop k l
-behind k l = take-all (length l - k) (drop k l) (omega (arith, length-drop k l))
+use Rattle.trace.specs.Read.{dataBytes}
+use Rattle.trace.specs.WordsLaws.{to-end}
+use Rattle.trace.specs.DataLaws.{bytes-length, data-length}
 
 -- one digit passed
 pub hex-next : (t : List ℕ) (i : ℕ) → i < length t → isHex (getD t i 0) ≡ true → allHex (drop i t) ≡ allHex t → allHex (drop (i + 1) t) ≡ allHex t
@@ -55,13 +31,7 @@ pub hex-done : (t : List ℕ) (i : ℕ) → length t ≤ i → allHex (drop i t)
 unfolding allHex hexGood
 hex-done t i h e = when _ _ _ _ (sym e ∙ ap allHex (drop-of-length-le t h)) refl
 
--- how many bytes, and each of them
-bytes-length : (t : List ℕ) → length (hexBytes t) ≡ length t / 2
-unfolding hexBytes
-bytes-length [] = refl
-bytes-length (a ∷ []) = refl
-bytes-length (a ∷ b ∷ t) = omega (arith, bytes-length t)
-
+-- each of the bytes
 byte-at : (t : List ℕ) (i : ℕ) → i + i + 1 < length t
     → getD (hexBytes t) i 0 ≡ hexValue (getD t (i + i) 0) * 16 + hexValue (getD t (i + i + 1) 0)
 unfolding hexBytes
@@ -86,27 +56,7 @@ pub decode-done : (t d : List ℕ) (i : ℕ) {e : List ℕ} → i ≡ length t /
 unfolding putOf
 decode-done t d i h p = p ∙ rw (h ∙ sym (bytes-length t), take-length)
 
--- a line of data that is well written, and the answer at each way out
-pub data-long : (kind : ℕ) (l : List ℕ) → dataGood kind l ≡ true → 5 ≤ length l
-unfolding dataGood
-data-long kind l g = starts-long (ascii "data=") l (every-at _ g 0)
-
-data-length : (l : List ℕ) → length (dataBytes l) ≡ (length l - 5) / 2
-unfolding dataBytes
-data-length l = bytes-length (drop 5 l) ∙ ap (λ (n : ℕ). n / 2) (length-drop 5 l)
-
-pub data-bad : (kind : ℕ) (l : List ℕ) (room : ℕ) → dataGood kind l ≡ false → 16 ≡ dataAnswer kind l room
-unfolding dataAnswer
-data-bad kind l room g = first-here _ _ _ (ap not g)
-
-pub data-short : (kind : ℕ) (l : List ℕ) (room : ℕ) → dataGood kind l ≡ true → room < (length l - 5) / 2 → 14 ≡ dataAnswer kind l room
-unfolding dataAnswer
-data-short kind l room g h = first-here _ _ _ (lt-ltb room (length (dataBytes l)) (omega (arith, data-length l))) ∙ first-skip _ _ _ (ap not g)
-
-pub data-fits : (kind : ℕ) (l : List ℕ) (room : ℕ) → dataGood kind l ≡ true → (length l - 5) / 2 ≤ room → 0 ≡ dataAnswer kind l room
-unfolding dataAnswer
-data-fits kind l room g h = first-none ∙ first-skip _ _ _ (le-ltb room (length (dataBytes l)) (omega (arith, data-length l))) ∙ first-skip _ _ _ (ap not g)
-
+-- all bytes of a line
 pub data-laid : (l d : List ℕ) {e : List ℕ} → e ≡ putOf d 0 (hexBytes (take (length l - 5) (drop 5 l))) → Laid d 0 (dataBytes l) e ((length l - 5) / 2)
 unfolding dataBytes
-data-laid l d p = record { bytes = p ∙ ap (λ (t : List ℕ). putOf d 0 (hexBytes t)) (behind 5 l); next = omega (arith, data-length l) }
+data-laid l d p = record { bytes = p ∙ ap (λ (t : List ℕ). putOf d 0 (hexBytes t)) (to-end 5 l); next = omega (arith, data-length l) }

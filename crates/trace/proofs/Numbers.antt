@@ -7,7 +7,7 @@ use native.Mathlib.Numerals.{add-one}
 use native.Mathlib.Omega.{arith}
 use borrow.Author.Tests.{leb-true, lt-ltb, le-ltb, ltb-false, eq-eqb, ne-eqb}
 use lib.ListN.{length, take, drop, getD, length-drop, drop-of-length-le}
-use lib.Seq.{take-all, drop-cons, drop-drop}
+use lib.Seq.{drop-cons, drop-drop}
 use lib.Dec.{eqb, ltb, leb}
 use Rattle.common.specs.Choice.{when, unless}
 use Rattle.common.specs.EveryLaws.{every-fails, all-every}
@@ -20,6 +20,7 @@ use Rattle.trace.specs.declared.reading.Pair.the-variants as pair
 use Rattle.trace.specs.Lines.{upTo, past}
 use Rattle.trace.specs.LinesLaws.{upTo-take, past-drop}
 use Rattle.trace.specs.Words.{startsWith}
+use Rattle.trace.specs.WordsLaws.{to-end}
 use Rattle.trace.specs.Numbers.{isDigit, allDigits, leadingZero, isNumber, numberOf, numberUnder, onNumber, pairOf, firstOf}
 
 -- a byte below `0`, and any other
@@ -118,10 +119,6 @@ unfolding numberOf isNumber
 number-given ds v some lead digits e h =
     let l : valueOf ds < 4294967296 = omega arith in
     when _ _ _ _ (all-every _ (ap not (ne-eqb (length ds) 0 some), (ap not lead, (sym digits, (lt-ltb (valueOf ds) 4294967296 l, tt))))) (ap Given e)
-
--- the part of a line from place n to its end
-to-end : (n : ℕ) (l : List ℕ) → take (length l - n) (drop n l) ≡ drop n l
-to-end n l = take-all (length l - n) (drop n l) (omega (arith, length-drop n l))
 
 -- the number under a key
 pub under-other : (key l : List ℕ) → startsWith key l ≡ false → Bad ≡ numberUnder key l

@@ -18,7 +18,7 @@ use Rattle.text.specs.Lines.{between}
 use Rattle.text.specs.Within.{LaidWithin, text-front}
 use Rattle.trace.specs.Hex.{hexDigit, hexText}
 use Rattle.trace.specs.Kinds.{isKind, kindText}
-use Rattle.trace.specs.ReadsBackLaws.{hex-length}
+use Rattle.trace.specs.DataLaws.{hex-length}
 use Rattle.trace.specs.Write.{headText, leadText, eventText, eventGood, eventAnswer}
 
 -- the parts that are laid one after the other are the lines

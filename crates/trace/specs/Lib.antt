@@ -8,6 +8,6 @@ pub mod Read
 pub mod Write
 pub mod LinesLaws
 pub mod WordsLaws
-pub mod HexLaws
+pub mod DataLaws
 pub mod ReadsBackLaws
 pub mod ReadsBack

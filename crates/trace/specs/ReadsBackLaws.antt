@@ -24,6 +24,7 @@ use Rattle.trace.specs.Numbers.{isDigit, allDigits, leadingZero, isNumbe
 use Rattle.trace.specs.Read.{Event, head, andThen, headOf, eventsOf, dataGood, dataBytes}
 use Rattle.trace.specs.Words.{same, startsWith}
 use Rattle.trace.specs.Write.{headText, eventText, eventGood}
+use Rattle.trace.specs.DataLaws.{hex-length}
 
 -- byte x does not stand in a text
 lacks : ℕ → List ℕ → Bool
@@ -156,11 +157,6 @@ digit-back v h =
     (λ (l : v < 10). let b = byte-low (48 + v) (omega arith) (omega arith) in digit-as v (48 + v) (rw (lt-ltb v 10 l) refl) (b .0 ∙ omega arith) (b .1) (omega arith))
     (λ (g : 10 ≤ v). let b = byte-high (87 + v) (omega arith) (omega arith) in digit-as v (87 + v) (rw (le-ltb v 10 g) refl) (b .0 ∙ omega arith) (b .1) (omega arith))
     (lt-or-ge v 10)
-
-pub hex-length : (bs : List ℕ) → length (hexText bs) ≡ length bs + length bs
-unfolding hexText
-hex-length [] = refl
-hex-length (b ∷ bs) = omega (arith, hex-length bs)
 
 -- of bytes
 hex-back : (bs : List ℕ) → ((i : ℕ) → getD bs i 0 < 256) → hexBytes (hexText bs) ≡ bs

@@ -1,12 +1,13 @@
 -- Laws of words: which bytes are the same, and how long a line is that is accepted.
-use Prim.Native.Nat.{ℕ, _≤_, _<_}
+use Prim.Native.Nat.{ℕ, _-_, _≤_, _<_}
 use mathlib.Core.Bool.{Bool, true, false, cond}
 use mathlib.Core.List.{List, [], _∷_}
 use mathlib.Core.Logic.{⊎-elim}
 use mathlib.Core.Path.{_≡_, refl, sym, _∙_, ap}
 use native.Mathlib.Omega.{arith}
 use borrow.Author.Tests.{eq-eqb, eqb-true}
-use lib.ListN.{length, take, length-take}
+use lib.ListN.{length, take, drop, length-take, length-drop}
+use lib.Seq.{take-all}
 use lib.Dec.{eqb}
 use Rattle.common.specs.Facts.{lt-or-ge, bool, clash, not-so}
 use Rattle.common.specs.Order.{first-skip, first-none}
@@ -34,6 +35,10 @@ same-true (x ∷ xs) (y ∷ ys) h = go (eqb x y) refl h (λ t. same-true xs ys t
 
 pub same-length : (a b : List ℕ) → same a b ≡ true → length a ≡ length b
 same-length a b h = ap length (same-true a b h)
+
+-- the part of a line from place n to its end
+pub to-end : (n : ℕ) (l : List ℕ) → take (length l - n) (drop n l) ≡ drop n l
+to-end n l = take-all (length l - n) (drop n l) (omega (arith, length-drop n l))
 
 -- a line is as long as the key that it starts with
 pub starts-length : (key l : List ℕ) → startsWith key l ≡ true → length key ≤ length l

@@ -8,7 +8,7 @@ ghost use Rattle.common.specs.Laid.{Laid};
 ghost use Rattle.text.specs.Ascii.{ascii};
 ghost use Rattle.text.specs.Within.{LaidWithin};
 ghost use Rattle.trace.specs.Hex.{hexDigit, hexText};
-ghost use Rattle.trace.specs.Kinds.{isKind, kindText};
+ghost use Rattle.trace.specs.Kinds.{kindText};
 ghost use Rattle.trace.specs.Write.{headText, leadText, eventText, eventGood, eventAnswer};
 use crate::data;
 use common::Written;

@@ -4,7 +4,7 @@ use native.Mathlib.Omega.{arith}
 use Prim.Native.Nat.{ℕ}
 use lib.ListN.{length-replicate}
 use lib.Seq.{length-take-le}
-use Rattle.replayer.proofs.OneLine.{data-refused, data-wrote, data-taken, data-fits, line-refused, line-called}
+use Rattle.replayer.proofs.OneLine.{data-refused, data-wrote, data-taken, data-within, line-refused, line-called}
 use borrow.Author.Needs.{needs}
 use Rattle.replayer.proofs.data_line.Statement.{statement}
 use Rattle.replayer.proofs.data_line.Tie as tie
@@ -25,7 +25,7 @@ enum-known-n : tie.Need-enum-known-n
 enum-known-n c = search needs
 
 array-share-prefix-bytes : tie.Need-array-share-prefix-bytes
-array-share-prefix-bytes c = omega (arith, data-fits _ _ _ (omega (arith, length-replicate {A = ℕ} 32768 0)) (c .before .before .before .before .before .before .before .before .before .before .before .before .before .before .before .pre .1) (sym (c .before .before .before .n .given .1) ∙ c .before .before .before .before .before .before .read .ensures .0))
+array-share-prefix-bytes c = omega (arith, data-within _ _ _ (omega (arith, length-replicate {A = ℕ} 32768 0)) (c .before .before .before .before .before .before .before .before .before .before .before .before .before .before .before .pre .1) (sym (c .before .before .before .n .given .1) ∙ c .before .before .before .before .before .before .read .ensures .0))
 
 slice-aggregate-call : tie.Need-slice-aggregate-call
 slice-aggregate-call c = sym (length-take-le _ _ (array-share-prefix-bytes (c .before)))

@@ -4,7 +4,8 @@ use native.Mathlib.Omega.{arith}
 use borrow.Author.Needs.{needs}
 use borrow.Author.Tests.{not-true, not-false}
 use Rattle.common.specs.Answer.{written-refused, left-refused, written-wrote, left-wrote}
-use Rattle.trace.proofs.Decoded.{data-long, data-bad, data-short, data-fits, data-laid}
+use Rattle.trace.specs.DataLaws.{data-long, data-bad, data-short, data-fits}
+use Rattle.trace.proofs.Decoded.{data-laid}
 use Rattle.trace.proofs.data.read.Statement.{statement}
 use Rattle.trace.proofs.data.read.Tie as tie
 

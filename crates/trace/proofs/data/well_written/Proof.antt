@@ -7,7 +7,7 @@ use Rattle.common.specs.EveryLaws.{every-fails, every-skip, every-last}
 use Rattle.text.specs.Ascii.{ascii}
 use Rattle.trace.specs.Hex.{hexGood}
 use Rattle.trace.specs.Read.{dataGood}
-use Rattle.trace.proofs.Decoded.{starts-long, behind}
+use Rattle.trace.specs.WordsLaws.{starts-length, to-end}
 use Rattle.trace.proofs.data.well_written.Statement.{statement}
 use Rattle.trace.proofs.data.well_written.Tie as tie
 
@@ -22,10 +22,10 @@ unfolding dataGood
 returns c = every-fails _ 0 (sym (c .before .starts .ensures) ∙ not-true _ (c .if1 .taken))
 
 sub-hex : tie.Need-sub-hex
-sub-hex c = starts-long (ascii "data=") _ (sym (c .before .starts .ensures) ∙ not-false _ (c .if1 .left))
+sub-hex c = starts-length (ascii "data=") _ (sym (c .before .starts .ensures) ∙ not-false _ (c .if1 .left))
 
 part-hex-start : tie.Need-part-hex-start
-part-hex-start c = starts-long (ascii "data=") _ (sym (c .before .starts .ensures) ∙ not-false _ (c .if1 .left))
+part-hex-start c = starts-length (ascii "data=") _ (sym (c .before .starts .ensures) ∙ not-false _ (c .if1 .left))
 
 part-hex-end : tie.Need-part-hex-end
 part-hex-end c = search needs
@@ -35,18 +35,18 @@ hex-requires c κs = search needs
 
 returns-2 : tie.Need-returns-2
 unfolding dataGood
-returns-2 c = every-fails _ 1 (ap hexGood (sym (behind 5 (c .before .before .before .before .before .before .before .args .line .now))) ∙ sym (c .before .hex .ensures) ∙ not-true _ (c .if2 .taken))
+returns-2 c = every-fails _ 1 (ap hexGood (sym (to-end 5 (c .before .before .before .before .before .before .before .args .line .now))) ∙ sym (c .before .hex .ensures) ∙ not-true _ (c .if2 .taken))
 
 has-data-requires : tie.Need-has-data-requires
 has-data-requires c κs = search needs
 
 returns-3 : tie.Need-returns-3
 unfolding dataGood
-returns-3 c = when _ _ _ _ (sym (c .before .has-data .ensures) ∙ c .if3 .taken) refl ∙ every-last _ ∙ every-skip _ _ (ap hexGood (sym (behind 5 (c .before .before .before .before .before .before .before .before .before .args .line .now))) ∙ sym (c .before .before .before .hex .ensures) ∙ not-false _ (c .before .before .if2 .left)) ∙ every-skip _ _ (sym (c .before .before .before .before .before .before .starts .ensures) ∙ not-false _ (c .before .before .before .before .before .if1 .left))
+returns-3 c = when _ _ _ _ (sym (c .before .has-data .ensures) ∙ c .if3 .taken) refl ∙ every-last _ ∙ every-skip _ _ (ap hexGood (sym (to-end 5 (c .before .before .before .before .before .before .before .before .before .args .line .now))) ∙ sym (c .before .before .before .hex .ensures) ∙ not-false _ (c .before .before .if2 .left)) ∙ every-skip _ _ (sym (c .before .before .before .before .before .before .starts .ensures) ∙ not-false _ (c .before .before .before .before .before .if1 .left))
 
 returns-4 : tie.Need-returns-4
 unfolding dataGood
-returns-4 c = unless _ _ _ _ (sym (c .before .has-data .ensures) ∙ c .if3 .left) refl ∙ every-last _ ∙ every-skip _ _ (ap hexGood (sym (behind 5 (c .before .before .before .before .before .before .before .before .before .args .line .now))) ∙ sym (c .before .before .before .hex .ensures) ∙ not-false _ (c .before .before .if2 .left)) ∙ every-skip _ _ (sym (c .before .before .before .before .before .before .starts .ensures) ∙ not-false _ (c .before .before .before .before .before .if1 .left))
+returns-4 c = unless _ _ _ _ (sym (c .before .has-data .ensures) ∙ c .if3 .left) refl ∙ every-last _ ∙ every-skip _ _ (ap hexGood (sym (to-end 5 (c .before .before .before .before .before .before .before .before .before .args .line .now))) ∙ sym (c .before .before .before .hex .ensures) ∙ not-false _ (c .before .before .if2 .left)) ∙ every-skip _ _ (sym (c .before .before .before .before .before .before .starts .ensures) ∙ not-false _ (c .before .before .before .before .before .if1 .left))
 
 pub well-written-spec : {M : Type 1} → statement M
 well-written-spec =

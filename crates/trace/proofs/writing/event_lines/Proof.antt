@@ -1,7 +1,7 @@
 -- `event_lines` meets its contract: the lead, the bytes as text and the newline are laid one after the other.
 use native.Mathlib.Omega.{arith}
 use borrow.Author.Needs.{needs}
-use Rattle.trace.specs.ReadsBackLaws.{hex-length}
+use Rattle.trace.specs.DataLaws.{hex-length}
 use Rattle.trace.proofs.Texts.{event-lays}
 use Rattle.trace.proofs.writing.event_lines.Statement.{statement}
 use Rattle.trace.proofs.writing.event_lines.Tie as tie
