@@ -6,6 +6,7 @@ use mathlib.Core.List.{List, [], _∷_, _++_}
 use lib.Dec.{eqb}
 use Rattle.text.specs.Decimal.{decimalOf}
 use Rattle.text.specs.Lines.{line, comma}
+use Rattle.trace.specs.Kinds.{kindIn, kindSend, kindResend, kindTake, kindSweep}
 use Rattle.trace.specs.Read.{Event}
 use Rattle.receiver.specs.Take.{takeAnswer}
 use Rattle.receiver.specs.Acknowledge.{acknowledgeAnswer}
@@ -20,13 +21,13 @@ use Rattle.endpoint.specs.Calls.{Endpoint, Call, receives, takes, acknowledges,
 abbrev pub endpointWith : Sender → Receiver → List ℕ → List ℕ → Endpoint
 endpointWith s r store sent = record { halves = halves s r store; sent = sent }
 
--- the call of an event, by its kind: in, send, resend, take, sweep, ack
+-- the call of an event, by its kind
 unfoldable pub callBy : ℕ → ℕ → List ℕ → Call
 callBy kind tick bytes =
-    cond (eqb kind 1) (receives bytes)
-    (cond (eqb kind 2) (sends tick bytes 1232)
-    (cond (eqb kind 3) (resends tick 1232)
-    (cond (eqb kind 4) (takes 1232) (cond (eqb kind 5) (sweeps tick) (acknowledges tick 0 1232)))))
+    cond (eqb kind kindIn) (receives bytes)
+    (cond (eqb kind kindSend) (sends tick bytes 1232)
+    (cond (eqb kind kindResend) (resends tick 1232)
+    (cond (eqb kind kindTake) (takes 1232) (cond (eqb kind kindSweep) (sweeps tick) (acknowledges tick 0 1232)))))
 
 abbrev pub callFor : Event → Call
 callFor x = callBy (x .kind) (x .tick) (x .bytes)

@@ -1,5 +1,5 @@
 -- Worked examples of replays: refusals in the head, an opening out of range, and what an event's lines read as.
-use mathlib.Core.Bool.{false, true}
+use mathlib.Core.Bool.{false}
 use mathlib.Core.List.{List, [], _∷_}
 use mathlib.Core.Path.{_≡_, refl}
 use Rattle.common.specs.Every.{every}

@@ -6,7 +6,7 @@ use mathlib.Core.Path.{_≡_}
 use lib.ListN.{length}
 use lib.Dec.{eqb}
 use Rattle.text.specs.Within.{LaidWithin}
-use Rattle.trace.specs.Read.{freshCursor}
+use Rattle.trace.specs.Read.{kindDue, dataDue, freshCursor}
 use Rattle.endpoint.specs.Open.{freshPair}
 use Rattle.endpoint.specs.Calls.{Endpoint, Call, callOf}
 use Rattle.replayer.specs.declared.State.{State}
@@ -35,7 +35,7 @@ freshState =
 
 -- three bytes of output for five of the trace: what an event's lines so far have paid for its answer
 unfoldable pub paid : ℕ → ℕ
-paid due = cond (eqb due 5) 30 (cond (eqb due 6) 60 0)
+paid due = cond (eqb due kindDue) 30 (cond (eqb due dataDue) 60 0)
 
 -- a line was taken: the machine after it, what was written, and how much
 pub record Steps (m : Machine) (l d : List ℕ) (at : ℕ) (s : State) (store sent e : List ℕ) (r : ℕ) : Type 0 where

@@ -17,13 +17,13 @@ use Rattle.trace.specs.declared.reading.Pair.the-variants as pair
 use Rattle.trace.specs.Words.{same}
 use Rattle.trace.specs.Numbers.{numberUnder, firstOf, onNumber, onPair}
 use Rattle.trace.specs.Kinds.{kindOf}
-use Rattle.trace.specs.Read.{freshCursor, dueOf, firstRead, timeoutRead, tickRead, kindRead, atFormat, atEdition, atFirst, atTimeout, atTick, atKind, nextOf, dataGood, dataBytes, Event, event, Events, events, andThen, Head, noHead, head, headOf, eventsOf}
+use Rattle.trace.specs.Read.{dueOf, firstRead, timeoutRead, tickRead, kindRead, atFormat, atEdition, atFirst, atTimeout, atTick, atKind, nextOf, dataGood, dataBytes, Event, event, Events, events, andThen, Head, noHead, head, headOf, eventsOf}
 use Rattle.endpoint.specs.Open.{openAnswer, openedOf, freshPair}
 use Rattle.endpoint.specs.Calls.{Endpoint, callOf, callsOf}
 use Rattle.endpoint.specs.Fresh.{endpointOf, freshOf, opened-fresh}
 use Rattle.replayer.specs.Asks.{callFor, callsFor, answerFor, answersFor}
 use Rattle.replayer.specs.Replay.{refusal, recordOf, blankStore, eventsReplayed, headReplayed}
-use Rattle.replayer.specs.Steps.{Machine, machine, begun, dataRead, called, openedBy, opening, stepOf, stepText, endFor, endText, runOf}
+use Rattle.replayer.specs.Steps.{Machine, machine, dataRead, called, openedBy, opening, stepOf, stepText, endFor, endText, runOf}
 
 -- where no line is due any more, nothing is written but the end
 next-ended : (c : Cursor) (l : List ℕ) → 7 ≤ c .due → nextOf c l ≡ c
@@ -103,17 +103,17 @@ end-whole : (c : Cursor) (e : Endpoint) → endText (machine (dueOf c 4) e) ≡ 
 unfolding endText endFor eventsReplayed answersFor callsFor callsOf
 end-whole c e = sym (append-nil (recordOf e))
 
-end-broken : (e : Endpoint) → refusal 16 ++ recordOf e ≡ eventsReplayed e (events [] false)
+end-stopped : (e : Endpoint) → refusal 16 ++ recordOf e ≡ eventsReplayed e (events [] false)
 unfolding eventsReplayed answersFor callsFor callsOf
-end-broken e = ap (λ (x : List ℕ). refusal 16 ++ x) (sym (append-nil (recordOf e)))
+end-stopped e = ap (λ (x : List ℕ). refusal 16 ++ x) (sym (append-nil (recordOf e)))
 
 end-at : (c : Cursor) (e : Endpoint) (d : ℕ) → 5 ≤ d → d ≤ 7 → endText (machine (dueOf c d) e) ≡ refusal 16 ++ recordOf e
 unfolding endText endFor
 end-at c e d l h =
     rw (ne-eqb d 4 (λ q. omega arith), ne-eqb d 9 (λ q. omega arith), le-ltb d 4 (omega arith), le-leb d 7 h) refl
 
-broken : (c : Cursor) (e : Endpoint) (ls : List (List ℕ)) → runOf (machine (dueOf c 7) e) ls ≡ eventsReplayed e (events [] false)
-broken c e ls = run-ended (machine (dueOf c 7) e) ls (omega arith) ∙ end-at c e 7 (omega arith) (omega arith) ∙ end-broken e
+stopped : (c : Cursor) (e : Endpoint) (ls : List (List ℕ)) → runOf (machine (dueOf c 7) e) ls ≡ eventsReplayed e (events [] false)
+stopped c e ls = run-ended (machine (dueOf c 7) e) ls (omega arith) ∙ end-at c e 7 (omega arith) (omega arith) ∙ end-stopped e
 
 -- the answer of one event before those of the rest
 replayed-next : (e : Endpoint) (x : Event) (y : Events)
@@ -137,20 +137,20 @@ events-run [] c e = run-none (machine (dueOf c 4) e) ∙ end-whole c e
 events-run (t ∷ []) c e = by (numberUnder (ascii "tick=") t) refl
   where
     by : (v : Value) → numberUnder (ascii "tick=") t ≡ v → runOf (machine (dueOf c 4) e) (t ∷ []) ≡ eventsReplayed e (events [] false)
-    by Bad h = run-as _ _ t [] [] (tick-bad c e t h) (tick-text c e t) ∙ broken c e []
+    by Bad h = run-as _ _ t [] [] (tick-bad c e t h) (tick-text c e t) ∙ stopped c e []
     by (Given n) h =
         run-as _ _ t [] [] (tick-good c e t n h) (tick-text c e t)
-        ∙ run-none (machine (tickRead c n) e) ∙ end-at (tickRead c n) e 5 (omega arith) (omega arith) ∙ end-broken e
+        ∙ run-none (machine (tickRead c n) e) ∙ end-at (tickRead c n) e 5 (omega arith) (omega arith) ∙ end-stopped e
 events-run (t ∷ k ∷ []) c e = by (numberUnder (ascii "tick=") t) refl
   where
     with-kind : (n : ℕ) (b : Bool) → eqb (kindOf k) 0 ≡ b → runOf (machine (tickRead c n) e) (k ∷ []) ≡ eventsReplayed e (events [] false)
-    with-kind n true h = run-as _ _ k [] [] (kind-bad c e n k h) (kind-text c e n k) ∙ broken (tickRead c n) e []
+    with-kind n true h = run-as _ _ k [] [] (kind-bad c e n k h) (kind-text c e n k) ∙ stopped (tickRead c n) e []
     with-kind n false h =
         run-as _ _ k [] [] (kind-good c e n k h) (kind-text c e n k)
-        ∙ run-none (machine (kindRead (tickRead c n) (kindOf k)) e) ∙ end-at (kindRead (tickRead c n) (kindOf k)) e 6 (omega arith) (omega arith) ∙ end-broken e
+        ∙ run-none (machine (kindRead (tickRead c n) (kindOf k)) e) ∙ end-at (kindRead (tickRead c n) (kindOf k)) e 6 (omega arith) (omega arith) ∙ end-stopped e
 
     by : (v : Value) → numberUnder (ascii "tick=") t ≡ v → runOf (machine (dueOf c 4) e) (t ∷ k ∷ []) ≡ eventsReplayed e (events [] false)
-    by Bad h = run-as _ _ t [] (k ∷ []) (tick-bad c e t h) (tick-text c e t) ∙ broken c e (k ∷ [])
+    by Bad h = run-as _ _ t [] (k ∷ []) (tick-bad c e t h) (tick-text c e t) ∙ stopped c e (k ∷ [])
     by (Given n) h = run-as _ _ t [] (k ∷ []) (tick-good c e t n h) (tick-text c e t) ∙ with-kind n (eqb (kindOf k) 0) refl
 events-run (t ∷ k ∷ d ∷ ls) c e = by (numberUnder (ascii "tick=") t) refl (λ x f. events-run ls x f)
   where
@@ -165,19 +165,19 @@ events-run (t ∷ k ∷ d ∷ ls) c e = by (numberUnder (ascii "tick=") t) refl 
         ∙ ap (λ (y : List ℕ). answerFor e (callFor (event n (kindOf k) (dataBytes d))) ++ y) (rest (kindRead (tickRead c n) (kindOf k)) (callOf 32 32 e (callFor (event n (kindOf k) (dataBytes d)))))
         ∙ replayed-next e (event n (kindOf k) (dataBytes d)) (eventsOf ls)
     with-data n false h rest =
-        run-as _ _ d [] ls (data-bad c e n (kindOf k) d h) (data-bad-text c e n (kindOf k) d h) ∙ broken (kindRead (tickRead c n) (kindOf k)) e ls
+        run-as _ _ d [] ls (data-bad c e n (kindOf k) d h) (data-bad-text c e n (kindOf k) d h) ∙ stopped (kindRead (tickRead c n) (kindOf k)) e ls
 
     with-kind : (n : ℕ) (b : Bool) → eqb (kindOf k) 0 ≡ b → Rest
         → runOf (machine (tickRead c n) e) (k ∷ d ∷ ls)
         ≡ eventsReplayed e (cond b (events [] false) (cond (dataGood (kindOf k) d) (andThen (event n (kindOf k) (dataBytes d)) (eventsOf ls)) (events [] false)))
-    with-kind n true h rest = run-as _ _ k [] (d ∷ ls) (kind-bad c e n k h) (kind-text c e n k) ∙ broken (tickRead c n) e (d ∷ ls)
+    with-kind n true h rest = run-as _ _ k [] (d ∷ ls) (kind-bad c e n k h) (kind-text c e n k) ∙ stopped (tickRead c n) e (d ∷ ls)
     with-kind n false h rest =
         run-as _ _ k [] (d ∷ ls) (kind-good c e n k h) (kind-text c e n k) ∙ with-data n (dataGood (kindOf k) d) refl rest
 
     by : (v : Value) → numberUnder (ascii "tick=") t ≡ v → Rest
         → runOf (machine (dueOf c 4) e) (t ∷ k ∷ d ∷ ls)
         ≡ eventsReplayed e (onNumber v (λ n. cond (eqb (kindOf k) 0) (events [] false) (cond (dataGood (kindOf k) d) (andThen (event n (kindOf k) (dataBytes d)) (eventsOf ls)) (events [] false))) (events [] false))
-    by Bad h rest = run-as _ _ t [] (k ∷ d ∷ ls) (tick-bad c e t h) (tick-text c e t) ∙ broken c e (k ∷ d ∷ ls)
+    by Bad h rest = run-as _ _ t [] (k ∷ d ∷ ls) (tick-bad c e t h) (tick-text c e t) ∙ stopped c e (k ∷ d ∷ ls)
     by (Given n) h rest = run-as _ _ t [] (k ∷ d ∷ ls) (tick-good c e t n h) (tick-text c e t) ∙ with-kind n (eqb (kindOf k) 0) refl rest
 
 -- a head that is refused or incomplete
@@ -193,8 +193,8 @@ end-nine : (c : Cursor) (e : Endpoint) → endText (machine (dueOf c 9) e) ≡ r
 unfolding endText endFor
 end-nine c e = refl
 
-headless : (c : Cursor) (e : Endpoint) (ls : List (List ℕ)) → runOf (machine (dueOf c 8) e) ls ≡ refusal 16
-headless c e ls = run-ended (machine (dueOf c 8) e) ls (omega arith) ∙ end-eight c e
+no-head : (c : Cursor) (e : Endpoint) (ls : List (List ℕ)) → runOf (machine (dueOf c 8) e) ls ≡ refusal 16
+no-head c e ls = run-ended (machine (dueOf c 8) e) ls (omega arith) ∙ end-eight c e
 
 -- opening is refused by 15 alone
 fifteen : (a b c d : Bool) → eqb (first (test a 15 ∷ test b 15 ∷ test c 15 ∷ test d 15 ∷ [])) 0 ≡ false → first (test a 15 ∷ test b 15 ∷ test c 15 ∷ test d 15 ∷ []) ≡ 15
@@ -260,8 +260,8 @@ module _ (c : Cursor) (e : Endpoint) where
   head-text d l h = rw (ne-eqb d 6 (λ q. omega arith)) refl
 
 -- the head line by line
-abbrev pub unopened : Endpoint
-unopened = endpointOf (freshPair 32 0 0 0 0) blankStore blankStore
+abbrev pub notOpened : Endpoint
+notOpened = endpointOf (freshPair 32 0 0 0 0) blankStore blankStore
 
 abbrev pub timeoutLines : ℕ → ℕ → List (List ℕ) → Head
 timeoutLines d k [] = noHead
@@ -285,60 +285,60 @@ unfolding headReplayed
 replayed-none = refl
 
 opened-lines : (d k t : ℕ) (ls : List (List ℕ)) (c : Cursor) (b : Bool) → eqb (openAnswer d k t) 0 ≡ b
-    → runOf (opening (machine (firstRead c d k) unopened) (timeoutRead (firstRead c d k) t)) ls ≡ headReplayed (head d k t ls)
+    → runOf (opening (machine (firstRead c d k) notOpened) (timeoutRead (firstRead c d k) t)) ls ≡ headReplayed (head d k t ls)
 unfolding headReplayed
 opened-lines d k t ls c true q =
-    ap (λ (m : Machine). runOf m ls) (timeout-good c unopened d k t q)
+    ap (λ (m : Machine). runOf m ls) (timeout-good c notOpened d k t q)
     ∙ events-run ls (timeoutRead (firstRead c d k) t) (freshOf 32 d k t blankStore blankStore)
     ∙ rw q refl
 opened-lines d k t ls c false q =
     let e = endpointOf (openedOf 32 d k t) blankStore blankStore in
-    ap (λ (m : Machine). runOf m ls) (timeout-refused c unopened d k t q)
+    ap (λ (m : Machine). runOf m ls) (timeout-refused c notOpened d k t q)
     ∙ run-ended (machine (dueOf (timeoutRead (firstRead c d k) t) 9) e) ls (omega arith)
     ∙ end-nine (timeoutRead (firstRead c d k) t) e
     ∙ rw (q, open-fifteen d k t q) refl
 
-timeout-run : (c : Cursor) (d k : ℕ) (ls : List (List ℕ)) → runOf (machine (firstRead c d k) unopened) ls ≡ headReplayed (timeoutLines d k ls)
-timeout-run c d k [] = run-none (machine (firstRead c d k) unopened) ∙ end-head (firstRead c d k) unopened 3 (omega arith) ∙ replayed-none
+timeout-run : (c : Cursor) (d k : ℕ) (ls : List (List ℕ)) → runOf (machine (firstRead c d k) notOpened) ls ≡ headReplayed (timeoutLines d k ls)
+timeout-run c d k [] = run-none (machine (firstRead c d k) notOpened) ∙ end-head (firstRead c d k) notOpened 3 (omega arith) ∙ replayed-none
 timeout-run c d k (t ∷ ls) = by (numberUnder (ascii "timeout=") t) refl
   where
-    none : stepText (machine (firstRead c d k) unopened) t ≡ []
-    none = head-text (firstRead c d k) unopened 3 t (omega arith)
+    none : stepText (machine (firstRead c d k) notOpened) t ≡ []
+    none = head-text (firstRead c d k) notOpened 3 t (omega arith)
 
-    by : (v : Value) → numberUnder (ascii "timeout=") t ≡ v → runOf (machine (firstRead c d k) unopened) (t ∷ ls) ≡ headReplayed (onNumber v (λ m. head d k m ls) noHead)
-    by Bad h = run-as _ _ t [] ls (timeout-bad c unopened d k t h) none ∙ headless (firstRead c d k) unopened ls ∙ replayed-none
-    by (Given m) h = run-as _ _ t [] ls (timeout-read c unopened d k m t h) none ∙ opened-lines d k m ls c (eqb (openAnswer d k m) 0) refl
+    by : (v : Value) → numberUnder (ascii "timeout=") t ≡ v → runOf (machine (firstRead c d k) notOpened) (t ∷ ls) ≡ headReplayed (onNumber v (λ m. head d k m ls) noHead)
+    by Bad h = run-as _ _ t [] ls (timeout-bad c notOpened d k t h) none ∙ no-head (firstRead c d k) notOpened ls ∙ replayed-none
+    by (Given m) h = run-as _ _ t [] ls (timeout-read c notOpened d k m t h) none ∙ opened-lines d k m ls c (eqb (openAnswer d k m) 0) refl
 
-first-run : (c : Cursor) (ls : List (List ℕ)) → runOf (machine (dueOf c 2) unopened) ls ≡ headReplayed (firstLines ls)
-first-run c [] = run-none (machine (dueOf c 2) unopened) ∙ end-head c unopened 2 (omega arith) ∙ replayed-none
+first-run : (c : Cursor) (ls : List (List ℕ)) → runOf (machine (dueOf c 2) notOpened) ls ≡ headReplayed (firstLines ls)
+first-run c [] = run-none (machine (dueOf c 2) notOpened) ∙ end-head c notOpened 2 (omega arith) ∙ replayed-none
 first-run c (p ∷ ls) = by (firstOf p) refl
   where
-    none : stepText (machine (dueOf c 2) unopened) p ≡ []
-    none = head-text c unopened 2 p (omega arith)
+    none : stepText (machine (dueOf c 2) notOpened) p ≡ []
+    none = head-text c notOpened 2 p (omega arith)
 
-    by : (v : Pair) → firstOf p ≡ v → runOf (machine (dueOf c 2) unopened) (p ∷ ls) ≡ headReplayed (onPair v (λ d k. timeoutLines d k ls) noHead)
-    by pair.Bad h = run-as _ _ p [] ls (first-bad c unopened p h) none ∙ headless c unopened ls ∙ replayed-none
-    by (pair.Both d k) h = run-as _ _ p [] ls (first-good c unopened p d k h) none ∙ timeout-run c d k ls
+    by : (v : Pair) → firstOf p ≡ v → runOf (machine (dueOf c 2) notOpened) (p ∷ ls) ≡ headReplayed (onPair v (λ d k. timeoutLines d k ls) noHead)
+    by pair.Bad h = run-as _ _ p [] ls (first-bad c notOpened p h) none ∙ no-head c notOpened ls ∙ replayed-none
+    by (pair.Both d k) h = run-as _ _ p [] ls (first-good c notOpened p d k h) none ∙ timeout-run c d k ls
 
 -- a line that must be one fixed text
 fixed-run : (c : Cursor) (d n : ℕ) (l w : List ℕ) (ls : List (List ℕ)) (x : Head) → d < 4
-    → stepOf (machine (dueOf c d) unopened) l ≡ machine (dueOf c (cond (same l w) n 8)) unopened
-    → runOf (machine (dueOf c n) unopened) ls ≡ headReplayed x
-    → runOf (machine (dueOf c d) unopened) (l ∷ ls) ≡ headReplayed (cond (same l w) x noHead)
-fixed-run c d n l w ls x h step rest = run-as _ _ l [] ls step (head-text c unopened d l h) ∙ by (same l w)
+    → stepOf (machine (dueOf c d) notOpened) l ≡ machine (dueOf c (cond (same l w) n 8)) notOpened
+    → runOf (machine (dueOf c n) notOpened) ls ≡ headReplayed x
+    → runOf (machine (dueOf c d) notOpened) (l ∷ ls) ≡ headReplayed (cond (same l w) x noHead)
+fixed-run c d n l w ls x h step rest = run-as _ _ l [] ls step (head-text c notOpened d l h) ∙ by (same l w)
   where
-    by : (b : Bool) → runOf (machine (dueOf c (cond b n 8)) unopened) ls ≡ headReplayed (cond b x noHead)
+    by : (b : Bool) → runOf (machine (dueOf c (cond b n 8)) notOpened) ls ≡ headReplayed (cond b x noHead)
     by true = rest
-    by false = headless c unopened ls ∙ replayed-none
+    by false = no-head c notOpened ls ∙ replayed-none
 
-edition-run : (c : Cursor) (ls : List (List ℕ)) → runOf (machine (dueOf c 1) unopened) ls ≡ headReplayed (editionLines ls)
-edition-run c [] = run-none (machine (dueOf c 1) unopened) ∙ end-head c unopened 1 (omega arith) ∙ replayed-none
-edition-run c (g ∷ ls) = fixed-run c 1 2 g (ascii "edition=1") ls (firstLines ls) (omega arith) (edition-step c unopened g) (first-run c ls)
+edition-run : (c : Cursor) (ls : List (List ℕ)) → runOf (machine (dueOf c 1) notOpened) ls ≡ headReplayed (editionLines ls)
+edition-run c [] = run-none (machine (dueOf c 1) notOpened) ∙ end-head c notOpened 1 (omega arith) ∙ replayed-none
+edition-run c (g ∷ ls) = fixed-run c 1 2 g (ascii "edition=1") ls (firstLines ls) (omega arith) (edition-step c notOpened g) (first-run c ls)
 
-pub format-run : (c : Cursor) (ls : List (List ℕ)) → runOf (machine (dueOf c 0) unopened) ls ≡ headReplayed (formatLines ls)
-format-run c [] = run-none (machine (dueOf c 0) unopened) ∙ end-head c unopened 0 (omega arith) ∙ replayed-none
+pub format-run : (c : Cursor) (ls : List (List ℕ)) → runOf (machine (dueOf c 0) notOpened) ls ≡ headReplayed (formatLines ls)
+format-run c [] = run-none (machine (dueOf c 0) notOpened) ∙ end-head c notOpened 0 (omega arith) ∙ replayed-none
 format-run c (f ∷ ls) =
-    fixed-run c 0 1 f (ascii "format=counter-trace") ls (editionLines ls) (omega arith) (format-step c unopened f) (edition-run c ls)
+    fixed-run c 0 1 f (ascii "format=counter-trace") ls (editionLines ls) (omega arith) (format-step c notOpened f) (edition-run c ls)
 
 -- the same head as of all four lines at once
 either-way : (b : Bool) → cond b noHead noHead ≡ noHead

@@ -2,10 +2,10 @@
 -- same calls give one by one from a fresh endpoint, and the record that they leave.
 use Prim.Native.Nat.{ℕ, _≤_, _<_}
 use mathlib.Core.List.{List, _++_, append-nil}
-use mathlib.Core.Path.{_≡_, sym, _∙_, ap}
+use mathlib.Core.Path.{_≡_, ap}
 use borrow.Author.Tests.{eq-eqb, le-ltb}
 use lib.ListN.{length}
-use Rattle.trace.specs.Read.{Event, events, headOf, eventsOf}
+use Rattle.trace.specs.Read.{Event}
 use Rattle.trace.specs.Write.{traceText}
 use Rattle.trace.specs.ReadsBack.{AllGood, trace-reads-back}
 use Rattle.endpoint.specs.Open.{openAnswer}

@@ -5,7 +5,7 @@ use mathlib.Core.Bool.{Bool, false, cond}
 use mathlib.Core.List.{List, [], _∷_, _++_}
 use lib.Dec.{eqb, ltb, leb}
 use Rattle.trace.specs.declared.Cursor.{Cursor}
-use Rattle.trace.specs.Read.{freshCursor, dueOf, nextOf, dataGood, dataBytes}
+use Rattle.trace.specs.Read.{timeoutDue, tickDue, dataDue, broken, freshCursor, dueOf, nextOf, dataGood, dataBytes}
 use Rattle.receiver.specs.declared.Receiver.{Receiver}
 use Rattle.sender.specs.declared.Sender.{Sender}
 use Rattle.endpoint.specs.declared.Opened.{Opened}
@@ -30,38 +30,42 @@ begun store sent = machine freshCursor (endpointOf (freshPair 32 0 0 0 0) store 
 
 -- a line of data
 unfoldable pub dataRead : Cursor → List ℕ → Bool
-dataRead c l = cond (eqb (c .due) 6) (dataGood (c .kind) l) false
+dataRead c l = cond (eqb (c .due) dataDue) (dataGood (c .kind) l) false
 
 abbrev pub callAt : Cursor → List ℕ → Call
 callAt c l = callBy (c .kind) (c .tick) (dataBytes l)
 
 unfoldable pub called : Machine → List ℕ → Machine
 called m l =
-    cond (dataGood (m .cursor .kind) l) (machine (dueOf (m .cursor) 4) (callOf 32 32 (m .endpoint) (callAt (m .cursor) l)))
-    (machine (dueOf (m .cursor) 7) (m .endpoint))
+    cond (dataGood (m .cursor .kind) l) (machine (dueOf (m .cursor) tickDue) (callOf 32 32 (m .endpoint) (callAt (m .cursor) l)))
+    (machine (dueOf (m .cursor) broken) (m .endpoint))
 
--- the head's last line opens the endpoint; 9 is due where that is refused
+-- none is due, since opening was refused
+abbrev pub unopened : ℕ
+unopened = 9
+
+-- the head's last line opens the endpoint
 unfoldable pub openedBy : Cursor → Opened → ℕ
-openedBy c o = cond (eqb (o .answer) 0) (c .due) 9
+openedBy c o = cond (eqb (o .answer) 0) (c .due) unopened
 
 abbrev pub openWith : Cursor → Opened
 openWith c = openedOf 32 (c .firstdata) (c .firstchannel) (c .timeout)
 
 -- does the line between these two open the endpoint?
 unfoldable pub opensAt : ℕ → ℕ → Bool
-opensAt due after = cond (eqb due 3) (eqb after 4) false
+opensAt due after = cond (eqb due timeoutDue) (eqb after tickDue) false
 
 unfoldable pub opening : Machine → Cursor → Machine
 opening m c =
-    cond (eqb (c .due) 4)
+    cond (eqb (c .due) tickDue)
     (machine (dueOf c (openedBy c (openWith c))) (endpointOf (openWith c) (m .endpoint .halves .store) (m .endpoint .sent)))
     (machine c (m .endpoint))
 
 -- one line
 unfoldable pub stepOf : Machine → List ℕ → Machine
 stepOf m l =
-    cond (eqb (m .cursor .due) 6) (called m l)
-    (cond (eqb (m .cursor .due) 3) (opening m (nextOf (m .cursor) l)) (machine (nextOf (m .cursor) l) (m .endpoint)))
+    cond (eqb (m .cursor .due) dataDue) (called m l)
+    (cond (eqb (m .cursor .due) timeoutDue) (opening m (nextOf (m .cursor) l)) (machine (nextOf (m .cursor) l) (m .endpoint)))
 
 -- and what it writes
 unfoldable pub stepText : Machine → List ℕ → List ℕ
@@ -70,8 +74,8 @@ stepText m l = cond (dataRead (m .cursor) l) (answerFor (m .endpoint) (callAt (m
 -- what is written behind the last line, by the line that is due: the record alone where an event may follow; else the refusal, and the record where there is one
 unfoldable pub endFor : ℕ → Sender → Receiver → List ℕ
 endFor due s r =
-    cond (eqb due 4) (recordText s r)
-    (cond (eqb due 9) (refusal 15) (cond (ltb due 4) (refusal 16) (cond (leb due 7) (refusal 16 ++ recordText s r) (refusal 16))))
+    cond (eqb due tickDue) (recordText s r)
+    (cond (eqb due unopened) (refusal 15) (cond (ltb due tickDue) (refusal 16) (cond (leb due broken) (refusal 16 ++ recordText s r) (refusal 16))))
 
 unfoldable pub endText : Machine → List ℕ
 endText m = endFor (m .cursor .due) (m .endpoint .halves .sender) (m .endpoint .halves .receiver)

@@ -9,9 +9,6 @@ use sender::Sender;
 use sender::sending;
 use sender::sweeping;
 
-// The longest datagram; no block is longer.
-const LONGEST: usize = 1232;
-
 // What a call answers, how many it found lost, and both records after it.
 pub struct Called {
     // Document 01's number.
@@ -57,7 +54,8 @@ pub(crate) fn call(
             receiver,
         };
     }
-    let mut out = [0u8; LONGEST];
+    // As long as the longest datagram; no block is longer.
+    let mut out = [0u8; wire::LONGEST];
     if kind == trace::SEND {
         let x = sending::send(s, sent, tick, bytes, &mut out);
         let sender = x.sender;

@@ -68,54 +68,83 @@ eventsOf (t ∷ k ∷ d ∷ ls) =
     (cond (dataGood (kindOf k) d) (andThen (event n (kindOf k) (dataBytes d)) (eventsOf ls)) (events [] false)))
     (events [] false)
 
+-- which line is due, by number
+abbrev pub formatDue : ℕ
+formatDue = 0
+
+abbrev pub editionDue : ℕ
+editionDue = 1
+
+abbrev pub firstDue : ℕ
+firstDue = 2
+
+abbrev pub timeoutDue : ℕ
+timeoutDue = 3
+
+abbrev pub tickDue : ℕ
+tickDue = 4
+
+abbrev pub kindDue : ℕ
+kindDue = 5
+
+abbrev pub dataDue : ℕ
+dataDue = 6
+
+-- none is: a line of an event was refused, or one of the head
+abbrev pub broken : ℕ
+broken = 7
+
+abbrev pub headless : ℕ
+headless = 8
+
 -- the cursor before the first line
 abbrev pub freshCursor : Cursor
-freshCursor = record { due = 0; firstdata = 0; firstchannel = 0; timeout = 0; tick = 0; kind = 0 }
+freshCursor = record { due = formatDue; firstdata = 0; firstchannel = 0; timeout = 0; tick = 0; kind = 0 }
 
 -- a cursor with what one more line says, and the line due after it
 abbrev pub dueOf : Cursor → ℕ → Cursor
 dueOf c n = record { due = n; firstdata = c .firstdata; firstchannel = c .firstchannel; timeout = c .timeout; tick = c .tick; kind = c .kind }
 
 abbrev pub firstRead : Cursor → ℕ → ℕ → Cursor
-firstRead c d h = record { due = 3; firstdata = d; firstchannel = h; timeout = c .timeout; tick = c .tick; kind = c .kind }
+firstRead c d h = record { due = timeoutDue; firstdata = d; firstchannel = h; timeout = c .timeout; tick = c .tick; kind = c .kind }
 
 abbrev pub timeoutRead : Cursor → ℕ → Cursor
-timeoutRead c t = record { due = 4; firstdata = c .firstdata; firstchannel = c .firstchannel; timeout = t; tick = c .tick; kind = c .kind }
+timeoutRead c t = record { due = tickDue; firstdata = c .firstdata; firstchannel = c .firstchannel; timeout = t; tick = c .tick; kind = c .kind }
 
 abbrev pub tickRead : Cursor → ℕ → Cursor
-tickRead c t = record { due = 5; firstdata = c .firstdata; firstchannel = c .firstchannel; timeout = c .timeout; tick = t; kind = c .kind }
+tickRead c t = record { due = kindDue; firstdata = c .firstdata; firstchannel = c .firstchannel; timeout = c .timeout; tick = t; kind = c .kind }
 
 abbrev pub kindRead : Cursor → ℕ → Cursor
-kindRead c k = record { due = 6; firstdata = c .firstdata; firstchannel = c .firstchannel; timeout = c .timeout; tick = c .tick; kind = k }
+kindRead c k = record { due = dataDue; firstdata = c .firstdata; firstchannel = c .firstchannel; timeout = c .timeout; tick = c .tick; kind = k }
 
--- by the line that is due: 7 where a line of an event is refused, 8 where one of the head is
+-- by the line that is due
 unfoldable pub atFormat : Cursor → List ℕ → Cursor
-atFormat c l = dueOf c (cond (same l (ascii "format=counter-trace")) 1 8)
+atFormat c l = dueOf c (cond (same l (ascii "format=counter-trace")) editionDue headless)
 
 unfoldable pub atEdition : Cursor → List ℕ → Cursor
-atEdition c l = dueOf c (cond (same l (ascii "edition=1")) 2 8)
+atEdition c l = dueOf c (cond (same l (ascii "edition=1")) firstDue headless)
 
 unfoldable pub atFirst : Cursor → List ℕ → Cursor
-atFirst c l = onPair (firstOf l) (λ d h. firstRead c d h) (dueOf c 8)
+atFirst c l = onPair (firstOf l) (λ d h. firstRead c d h) (dueOf c headless)
 
 unfoldable pub atTimeout : Cursor → List ℕ → Cursor
-atTimeout c l = onNumber (numberUnder (ascii "timeout=") l) (λ t. timeoutRead c t) (dueOf c 8)
+atTimeout c l = onNumber (numberUnder (ascii "timeout=") l) (λ t. timeoutRead c t) (dueOf c headless)
 
 unfoldable pub atTick : Cursor → List ℕ → Cursor
-atTick c l = onNumber (numberUnder (ascii "tick=") l) (λ t. tickRead c t) (dueOf c 7)
+atTick c l = onNumber (numberUnder (ascii "tick=") l) (λ t. tickRead c t) (dueOf c broken)
 
 unfoldable pub atKind : Cursor → List ℕ → Cursor
-atKind c l = cond (eqb (kindOf l) 0) (dueOf c 7) (kindRead c (kindOf l))
+atKind c l = cond (eqb (kindOf l) 0) (dueOf c broken) (kindRead c (kindOf l))
 
 -- one line, unless it is one of data; where none is due, nothing changes
 unfoldable pub nextOf : Cursor → List ℕ → Cursor
 nextOf c l =
-    cond (eqb (c .due) 0) (atFormat c l)
-    (cond (eqb (c .due) 1) (atEdition c l)
-    (cond (eqb (c .due) 2) (atFirst c l)
-    (cond (eqb (c .due) 3) (atTimeout c l)
-    (cond (eqb (c .due) 4) (atTick c l)
-    (cond (eqb (c .due) 5) (atKind c l) c)))))
+    cond (eqb (c .due) formatDue) (atFormat c l)
+    (cond (eqb (c .due) editionDue) (atEdition c l)
+    (cond (eqb (c .due) firstDue) (atFirst c l)
+    (cond (eqb (c .due) timeoutDue) (atTimeout c l)
+    (cond (eqb (c .due) tickDue) (atTick c l)
+    (cond (eqb (c .due) kindDue) (atKind c l) c)))))
 
 -- a line of data: 16, then 14
 unfoldable pub dataAnswer : ℕ → List ℕ → ℕ → ℕ
