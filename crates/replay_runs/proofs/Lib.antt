@@ -1,0 +1,2 @@
+-- A law that the functions' proofs cite.
+mod Recorded
