@@ -11,6 +11,7 @@ use Rattle.trace.specs.Lines.{upTo, linesOf}
 use Rattle.trace.specs.LinesLaws.{upTo-length, upTo-take, past-drop, lines-first}
 use Rattle.replayer.specs.declared.State.{State}
 use Rattle.replayer.specs.Steps.{Machine, begun, stepOf, stepText, endText, runOf}
+use Rattle.replayer.specs.LineLaws.{run-none}
 use Rattle.replayer.specs.Does.{Steps, machineOf, freshState, paid}
 
 -- t is the trace, and `from` the place of the next line; `done` is what was written so far
@@ -54,10 +55,6 @@ lines-none : linesOf [] ≡ []
 unfolding linesOf
 lines-none = refl
 
-run-end : (m : Machine) → runOf m [] ≡ endText m
-unfolding runOf
-run-end m = refl
-
 module _ {t store₀ sent₀ out₀ : List ℕ} {s : State} {store sent out : List ℕ} {at from : ℕ} (r : Ran t store₀ sent₀ out₀ s store sent out at from)
     (short : length t ≤ 65536) (wide : 131072 ≤ length out₀) where
   -- there is room for an answer, and for what follows the last line
@@ -98,7 +95,7 @@ module _ {t store₀ sent₀ out₀ : List ℕ} {s : State} {store sent out : Li
   ran-end {out′} {k} h x =
       let m = machineOf s store sent in
       let e : r .done ++ endText m ≡ runOf (begun store₀ sent₀) (linesOf t) =
-      ap (λ (y : List ℕ). r .done ++ y) (sym (run-end m))
+      ap (λ (y : List ℕ). r .done ++ y) (sym (run-none m))
       ∙ ap (λ (y : List (List ℕ)). r .done ++ runOf m y) (sym (ap linesOf (gone t from h) ∙ lines-none))
       ∙ r .rest in
       record {

@@ -57,7 +57,7 @@ module _ (k : ℕ) (l : List ℕ) (room : ℕ) (big : 32768 ≤ room) (short : l
       (bool (dataGood k l))
 
   -- how many bytes were read, and which
-  pub data-count : {n : ℕ} → Wrote n ≡ writtenOf (dataAnswer k l room) (dataBytes l) → n ≡ length (dataBytes l)
+  data-count : {n : ℕ} → Wrote n ≡ writtenOf (dataAnswer k l room) (dataBytes l) → n ≡ length (dataBytes l)
   unfolding writtenOf
   data-count {n} w = let e : Wrote n ≡ Wrote (length (dataBytes l)) = rw (← accepted (data-wrote w)) at w in cc
 
@@ -82,7 +82,7 @@ sweep-of tick bytes false false false true e p q r s = sym (s refl)
 sweep-of tick bytes false false false false true p q r s = refl
 sweep-of tick bytes false false false false false p q r s = refl
 
-pub sweep-by : (kind tick : ℕ) (bytes : List ℕ) → isSweep (callBy kind tick bytes) ≡ eqb kind 5
+sweep-by : (kind tick : ℕ) (bytes : List ℕ) → isSweep (callBy kind tick bytes) ≡ eqb kind 5
 unfolding callBy
 sweep-by kind tick bytes =
     let no : (n : ℕ) → (n ≡ 5 → ⊥) → eqb kind n ≡ true → eqb kind 5 ≡ false = λ n h e. ne-eqb kind 5 (λ q. h (sym (eqb-true kind n e) ∙ q)) in

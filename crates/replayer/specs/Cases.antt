@@ -11,7 +11,7 @@ use Rattle.trace.specs.Lines.{upTo, past, atFront, linesOf}
 use Rattle.trace.specs.Words.{same, startsWith}
 use Rattle.trace.specs.Numbers.{isDigit, allDigits, leadingZero, isNumber, numberOf, numberUnder, pairOf, firstOf}
 use Rattle.trace.specs.Hex.{isHex, hexValue, allHex, hexGood, hexBytes}
-use Rattle.trace.specs.Kinds.{kindOf, carries}
+use Rattle.trace.specs.Kinds.{kindSend, kindSweep, kindOf, carries}
 use Rattle.trace.specs.Read.{dataGood, dataBytes, event, events, headOf, eventsOf}
 use Rattle.endpoint.specs.Open.{openAnswer}
 use Rattle.replayer.specs.Replay.{headReplayed, replayOf}
@@ -31,6 +31,6 @@ unfolding cases replayOf headReplayed headOf linesOf atFront same startsWith num
 cases-right = (refl, (refl, (refl, (refl, (refl, (refl, tt))))))
 
 -- two events, and a third that breaks off
-pub events-read : eventsOf (linesOf (ascii "tick=5\nkind=send\ndata=0aff\ntick=6\nkind=sweep\ndata=\ntick=7\nkind=take")) ≡ events (event 5 2 (10 ∷ 255 ∷ []) ∷ event 6 5 [] ∷ []) false
+pub events-read : eventsOf (linesOf (ascii "tick=5\nkind=send\ndata=0aff\ntick=6\nkind=sweep\ndata=\ntick=7\nkind=take")) ≡ events (event 5 kindSend (10 ∷ 255 ∷ []) ∷ event 6 kindSweep [] ∷ []) false
 unfolding eventsOf linesOf atFront numberUnder startsWith same numberOf isNumber allDigits isDigit leadingZero valueOf valueFrom every kindOf first dataGood hexGood allHex isHex carries dataBytes hexBytes hexValue
 events-read = refl

@@ -33,7 +33,8 @@ freshState =
       receiver = freshPair 32 0 0 0 0 .receiver;
     }
 
--- three bytes of output for five of the trace: what an event's lines so far have paid for its answer
+-- An event's answer has at most 30 bytes, and each of its three lines at least six with its newline: five bytes of output for three of the trace. This is what
+-- the lines of the event so far have paid, in thirds of a byte of output.
 unfoldable pub paid : ℕ → ℕ
 paid due = cond (eqb due kindDue) 30 (cond (eqb due dataDue) 60 0)
 

@@ -126,7 +126,7 @@ run-as : (m n : Machine) (l t : List ℕ) (ls : List (List ℕ)) → stepOf m l 
 unfolding runOf
 run-as m n l t ls p q = rw (p, q) refl
 
-run-none : (m : Machine) → runOf m [] ≡ endText m
+pub run-none : (m : Machine) → runOf m [] ≡ endText m
 unfolding runOf
 run-none m = refl
 

@@ -1,12 +1,12 @@
 // Replays a counter's morning: from a fresh endpoint, one call for each event of a trace, a line for each answer, and at the end the full record.
-// A trace is taken line by line, with a value between the lines; nothing of it is read twice, and no line is written twice.
+// A trace is taken line by line, with a value between the lines; no line of it is looked at again, and the output is laid once and then copied out.
 ghost use mathlib.Core.Path.{_≡_};
 ghost use Prim.Native.Nat.{_+_, _≤_};
 ghost use lib.ListN.{length};
 ghost use Rattle.common.specs.Answer.{writtenOf, leftOf, roomAnswer};
 ghost use Rattle.text.specs.Within.{LaidWithin};
 ghost use Rattle.trace.specs.Lines.{linesOf};
-ghost use Rattle.trace.specs.Read.{dueOf};
+ghost use Rattle.trace.specs.Read.{dataDue, dueOf};
 ghost use Rattle.replayer.specs.Replay.{blankStore, replayOf};
 ghost use Rattle.replayer.specs.Steps.{begun, opensAt, openedBy, openWith, endFor, runOf};
 ghost use Rattle.replayer.specs.Does.{Steps, freshState, machineOf};
@@ -19,9 +19,10 @@ use receiver::Receiver;
 use sender::Sender;
 use trace::Cursor;
 
-// The longest trace, and the bytes that its longest data line can name.
+// The longest trace.
 pub const LONGEST: usize = 65536;
 
+// Half of it: no line of data names more bytes.
 const DATA: usize = 32768;
 
 // No output is longer.
@@ -110,7 +111,7 @@ fn data_line(
     out: &mut [u8],
     at: usize,
 ) -> Stepped
-    requires { ⌜ (at + 30 ≤ length (now out)) × (length (now line) ≤ 65536) × (s .cursor .due ≡ 6) ⌝ }
+    requires { ⌜ (at + 30 ≤ length (now out)) × (length (now line) ≤ 65536) × (s .cursor .due ≡ dataDue) ⌝ }
     ensures { λ x. ⌜ Steps (machineOf s (now (store .entry)) (now (sent .entry))) (now (line .entry)) (now (out .entry)) at (x .state) (now (store .exit)) (now (sent .exit)) (now (out .exit)) (x .at) ⌝ }
 {
     let c = s.cursor;

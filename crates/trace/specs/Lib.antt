@@ -11,3 +11,4 @@ pub mod WordsLaws
 pub mod DataLaws
 pub mod ReadsBackLaws
 pub mod ReadsBack
+pub mod ReadsBackByCalls

@@ -1,4 +1,4 @@
--- The lines of a text: what stands between two newlines, or behind the last. "a last line without newline is a line".
+-- The lines of a text: what stands between two newlines, or behind the last one if anything does.
 use Prim.Native.Nat.{ℕ}
 use mathlib.Core.Bool.{cond}
 use mathlib.Core.List.{List, [], _∷_}

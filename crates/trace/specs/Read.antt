@@ -24,7 +24,7 @@ pub record Event : Type 0 where
 abbrev pub event : ℕ → ℕ → List ℕ → Event
 event t k d = record { tick = t; kind = k; bytes = d }
 
--- "a line out of order, badly written"
+-- a line of data that is well written for an event of this kind
 unfoldable pub dataGood : ℕ → List ℕ → Bool
 dataGood kind l = every (startsWith (ascii "data=") l ∷ hexGood (drop 5 l) ∷ cond (carries kind) true (eqb (length l) 5) ∷ [])
 

@@ -24,6 +24,7 @@ use Rattle.trace.specs.Numbers.{isDigit, allDigits, leadingZero, isNumbe
 use Rattle.trace.specs.Read.{Event, head, andThen, headOf, eventsOf, dataGood, dataBytes}
 use Rattle.trace.specs.Words.{same, startsWith}
 use Rattle.trace.specs.Write.{headText, eventText, eventGood}
+use Rattle.trace.specs.WordsLaws.{same-refl}
 use Rattle.trace.specs.DataLaws.{hex-length}
 
 -- byte x does not stand in a text
@@ -75,14 +76,9 @@ past-it x (b ∷ l) rest h = go (eqb b x) h (past-it x l rest)
     go false k f = f k
 
 -- a key and what is under it
-same-self : (a : List ℕ) → same a a ≡ true
-unfolding same
-same-self [] = refl
-same-self (x ∷ a) = rw (eq-eqb x x refl) (same-self a)
-
 starts-own : (key v : List ℕ) → startsWith key (key ++ v) ≡ true
 unfolding startsWith
-starts-own key v = rw take-append-seam (same-self key)
+starts-own key v = rw take-append-seam (same-refl key)
 
 -- numbers in decimal
 digits-lack : (x : ℕ) {ds : List ℕ} → x < 48 → Digits ds → lacks x ds ≡ true
@@ -119,11 +115,11 @@ number-back : (n : ℕ) → n < 4294967296 → numberOf (decimalOf n) ≡ Given 
 unfolding numberOf
 number-back n h = rw (is-number n h, decimal-value) refl
 
-under-back : (key : List ℕ) (n : ℕ) → n < 4294967296 → numberUnder key (key ++ decimalOf n) ≡ Given n
+pub under-back : (key : List ℕ) (n : ℕ) → n < 4294967296 → numberUnder key (key ++ decimalOf n) ≡ Given n
 unfolding numberUnder
 under-back key n h = rw (starts-own, drop-append-seam) (number-back n h)
 
-first-back : (d c : ℕ) → d < 4294967296 → c < 4294967296 → firstOf (ascii "first=" ++ (decimalOf d ++ (44 ∷ decimalOf c))) ≡ Both d c
+pub first-back : (d c : ℕ) → d < 4294967296 → c < 4294967296 → firstOf (ascii "first=" ++ (decimalOf d ++ (44 ∷ decimalOf c))) ≡ Both d c
 unfolding firstOf pairOf startsWith same
 first-back d c h k =
     let l = digits-lack 44 (omega arith) (decimal-digits d) in
@@ -190,11 +186,11 @@ unfolding hexGood
 hex-good bs h = rw (hex-all bs h) (eq-eqb (length (hexText bs) % 2) 0 (omega (arith, hex-length bs)))
 
 -- kinds
-good-kind : (k n : ℕ) → eventGood k n ≡ true → isKind k ≡ true
+pub good-kind : (k n : ℕ) → eventGood k n ≡ true → isKind k ≡ true
 unfolding eventGood
 good-kind k n g = every-at _ g 0
 
-kind-bounds : (k : ℕ) → isKind k ≡ true → (1 ≤ k) × (k ≤ 6)
+pub kind-bounds : (k : ℕ) → isKind k ≡ true → (1 ≤ k) × (k ≤ 6)
 unfolding isKind
 kind-bounds k h = (leb-true 1 k (every-at _ h 0), leb-true k 6 (every-at _ h 1))
 
@@ -211,7 +207,7 @@ kind-cases P a b c d e f (suc (suc (suc (suc (suc (suc (suc k))))))) h = absurd 
 abbrev Back : ℕ → Type 0
 Back k = kindOf (ascii "kind=" ++ kindText k) ≡ k
 
-kind-back : (k : ℕ) → isKind k ≡ true → kindOf (ascii "kind=" ++ kindText k) ≡ k
+pub kind-back : (k : ℕ) → isKind k ≡ true → kindOf (ascii "kind=" ++ kindText k) ≡ k
 unfolding kindOf kindText same first
 kind-back = kind-cases Back refl refl refl refl refl refl
 
@@ -223,7 +219,7 @@ unfolding kindText lacks
 kind-lacks = kind-cases NoNewline refl refl refl refl refl refl
 
 -- the line of data
-data-back : (k : ℕ) (bs : List ℕ) → eventGood k (length bs) ≡ true → ((i : ℕ) → getD bs i 0 < 256) → dataGood k (ascii "data=" ++ hexText bs) ≡ true
+pub data-back : (k : ℕ) (bs : List ℕ) → eventGood k (length bs) ≡ true → ((i : ℕ) → getD bs i 0 < 256) → dataGood k (ascii "data=" ++ hexText bs) ≡ true
 unfolding eventGood dataGood
 data-back k bs g h = all-every _ (starts-own (ascii "data=") (hexText bs), (hex-good bs h, (size (carries k) (every-at _ g 1), tt)))
   where
@@ -231,8 +227,12 @@ data-back k bs g h = all-every _ (starts-own (ascii "data=") (hexText bs), (hex-
     size true e = refl
     size false e = eq-eqb (length (ascii "data=" ++ hexText bs)) 5 (omega (arith, hex-length bs, eqb-true (length bs) 0 e))
 
+pub bytes-back : (bs : List ℕ) → ((i : ℕ) → getD bs i 0 < 256) → dataBytes (ascii "data=" ++ hexText bs) ≡ bs
+unfolding dataBytes
+bytes-back bs h = hex-back bs h
+
 -- the lines of the head, and of an event
-head-lines : (d c t : ℕ) (rest : List ℕ)
+pub head-lines : (d c t : ℕ) (rest : List ℕ)
     → linesOf (headText d c t ++ rest)
     ≡ ascii "format=counter-trace"
     ∷ ascii "edition=1"
@@ -252,7 +252,7 @@ head-lines d c t rest =
     ∙ line-then (ascii "format=counter-trace") _ refl
     (line-then (ascii "edition=1") _ refl (line-then f _ (lacks-both 10 (decimalOf d) (44 ∷ decimalOf c) p q) (line-then g rest r refl)))
 
-event-lines : (t k : ℕ) (bs rest : List ℕ) → isKind k ≡ true → ((i : ℕ) → getD bs i 0 < 256)
+pub event-lines : (t k : ℕ) (bs rest : List ℕ) → isKind k ≡ true → ((i : ℕ) → getD bs i 0 < 256)
     → linesOf (eventText t k bs ++ rest) ≡ (ascii "tick=" ++ decimalOf t) ∷ (ascii "kind=" ++ kindText k) ∷ (ascii "data=" ++ hexText bs) ∷ linesOf rest
 unfolding eventText lacks
 event-lines t k bs rest p h =
@@ -271,7 +271,7 @@ head-back d c t dl cl tl rest = rw (head-lines d c t rest, first-back d c dl cl,
 
 pub event-back : (e : Event) (rest : List ℕ) → e .tick < 4294967296 → eventGood (e .kind) (length (e .bytes)) ≡ true → ((i : ℕ) → getD (e .bytes) i 0 < 256)
     → eventsOf (linesOf (eventText (e .tick) (e .kind) (e .bytes) ++ rest)) ≡ andThen e (eventsOf (linesOf rest))
-unfolding eventsOf dataBytes
+unfolding eventsOf
 event-back e rest l g h =
     let k = good-kind (e .kind) (length (e .bytes)) g in
     rw (
@@ -280,5 +280,5 @@ event-back e rest l g h =
       kind-back (e .kind) k,
       ne-eqb (e .kind) 0 (λ z. omega (arith, kind-bounds (e .kind) k .0)),
       data-back (e .kind) (e .bytes) g h,
-      hex-back (e .bytes) h,
+      bytes-back (e .bytes) h,
     ) refl

@@ -24,9 +24,10 @@ pub const KIND_DUE: u8 = 5;
 
 pub const DATA_DUE: u8 = 6;
 
-// No line is due any more: one of an event was refused, or one of the head.
+// No line is due any more, since one of an event was refused.
 pub const BROKEN: u8 = 7;
 
+// No line is due any more, since one of the head was refused.
 pub const HEADLESS: u8 = 8;
 
 // The kinds of event; 0 is none.

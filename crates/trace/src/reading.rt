@@ -7,7 +7,7 @@ ghost use Rattle.trace.specs.Lines.{upTo};
 ghost use Rattle.trace.specs.Words.{same, startsWith};
 ghost use Rattle.trace.specs.Numbers.{isDigit, numberOf, numberUnder, firstOf};
 ghost use Rattle.trace.specs.Kinds.{kindOf};
-ghost use Rattle.trace.specs.Read.{freshCursor, dueOf, atFirst, atTimeout, atTick, atKind, nextOf};
+ghost use Rattle.trace.specs.Read.{headless, freshCursor, dueOf, atFirst, atTimeout, atTick, atKind, nextOf};
 use crate::Cursor;
 
 // A number as it was written.
@@ -187,7 +187,7 @@ fn waiting(c: Cursor, due: u8) -> Cursor
 
 // A line that must be one fixed byte string.
 fn at_fixed(c: Cursor, line: &[u8], words: &[u8], due: u8) -> Cursor
-    ensures { λ r. ⌜ r ≡ dueOf c (cond (same (now (line .entry)) (now (words .entry))) due 8) ⌝ }
+    ensures { λ r. ⌜ r ≡ dueOf c (cond (same (now (line .entry)) (now (words .entry))) due headless) ⌝ }
 {
     if equals(line, words) {
         return waiting(c, due);
@@ -249,8 +249,8 @@ fn at_kind(c: Cursor, line: &[u8]) -> Cursor
     r
 }
 
-// Reads one line, without its newline, unless data is due: that line `data` reads. A line that is not the one due, or is badly written, leaves
-// BROKEN due, in the head HEADLESS; then no line changes anything.
+// Reads one line, without its newline. Where data is due it changes nothing: `data::read` reads that line. A line that is not the one due, or is badly
+// written, leaves BROKEN due, or HEADLESS in the head; from then on no line changes anything.
 pub fn next(c: Cursor, line: &[u8]) -> Cursor
     ensures { λ r. ⌜ r ≡ nextOf c (now (line .entry)) ⌝ }
 {
