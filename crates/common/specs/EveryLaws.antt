@@ -1,6 +1,6 @@
 -- What tests that all pass tell, and how to show that they do.
 use Prim.Native.Nat.{ℕ, zero, suc, _+_, _<_}
-use mathlib.Core.Bool.{Bool, true, false, cond}
+use mathlib.Core.Bool.{Bool, true, false, cond, not, _||_}
 use mathlib.Core.List.{List, [], _∷_, _++_}
 use mathlib.Core.Logic.{⊎-elim}
 use mathlib.Core.Path.{_≡_, refl, sym, _∙_, ap}
@@ -8,7 +8,7 @@ use native.Mathlib.Numerals.{add-one}
 use native.Mathlib.Omega.{arith}
 use lib.ListN.{getD}
 use Rattle.common.specs.Every.{every, allBelow, implies}
-use Rattle.common.specs.Facts.{lt-or-ge, clash, not-so}
+use Rattle.common.specs.Facts.{lt-or-ge, clash, not-so, same-bool}
 
 -- the tests of a list, one by one
 abbrev pub AllTrue : List Bool → Type 0
@@ -111,8 +111,51 @@ all-more p n h t = rw (add-one n, t) h
 pub all-fails : (p : ℕ → Bool) (n i : ℕ) → i < n → p i ≡ false → false ≡ allBelow p n
 all-fails p n i l h = sym (not-so (allBelow p n) (λ t. clash (p i) (all-at p n t i l) h))
 
-pub all-done : (p : ℕ → Bool) (n i : ℕ) → i ≡ n → allBelow p i ≡ true → true ≡ allBelow p n
-all-done p n i e h = rw (← e) (sym h)
+-- two tests for every number below n
+pub all-both : (p q : ℕ → Bool) (n : ℕ) → allBelow (λ j. every (p j ∷ q j ∷ [])) n ≡ every (allBelow p n ∷ allBelow q n ∷ [])
+all-both p q n =
+    same-bool _ _
+    (λ t. every-made _ _ (all-from p n λ i l. every-at (p i ∷ q i ∷ []) (all-at _ n t i l) 0)
+    (every-made _ _ (all-from q n λ i l. every-at (p i ∷ q i ∷ []) (all-at _ n t i l) 1) every-none))
+    (λ t. all-from _ n λ i l.
+    every-made _ _ (all-at p n (every-at (allBelow p n ∷ allBelow q n ∷ []) t 0) i l)
+    (every-made _ _ (all-at q n (every-at (allBelow p n ∷ allBelow q n ∷ []) t 1) i l) every-none))
+
+-- a flag that is raised where a test fails, and stays: raised before, or by one of the first n tests
+unfoldable pub raised : Bool → (ℕ → Bool) → ℕ → Bool
+raised before p n = before || not (allBelow p n)
+
+pub raised-none : (before : Bool) (p : ℕ → Bool) → before ≡ raised before p 0
+unfolding raised allBelow
+raised-none true p = refl
+raised-none false p = refl
+
+pub raised-more : (before : Bool) (p : ℕ → Bool) (n : ℕ) (flag fails : Bool) → flag ≡ raised before p n → fails ≡ not (p n)
+    → (flag || fails) ≡ raised before p (n + 1)
+unfolding raised allBelow
+raised-more before p n flag fails e f = rw (add-one n, e, f) (go before (allBelow p n) (p n))
+  where
+    go : (x y z : Bool) → ((x || not y) || not z) ≡ (x || not (cond z y false))
+    go true y z = refl
+    go false true true = refl
+    go false true false = refl
+    go false false true = refl
+    go false false false = refl
+
+-- one loop, and two with one flag
+pub raised-once : (p : ℕ → Bool) (n i : ℕ) (flag : Bool) → i ≡ n → flag ≡ raised false p i → flag ≡ not (allBelow p n)
+unfolding raised
+raised-once p n i flag a e = rw (e, a) refl
+
+pub raised-twice : (p q : ℕ → Bool) (n m i j : ℕ) (first flag : Bool) → i ≡ n → j ≡ m → first ≡ raised false p i → flag ≡ raised first q j
+    → flag ≡ not (every (allBelow p n ∷ allBelow q m ∷ []))
+unfolding raised every
+raised-twice p q n m i j first flag a b e f = rw (f, e, a, b) (go (allBelow p n) (allBelow q m))
+  where
+    go : (x y : Bool) → (not x || not y) ≡ not (cond x (cond y true false) false)
+    go true true = refl
+    go true false = refl
+    go false y = refl
 
 -- a test that is asked for only where another passes
 pub implied : (a b : Bool) → implies a b ≡ true → a ≡ true → b ≡ true

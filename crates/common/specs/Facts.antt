@@ -1,11 +1,11 @@
 -- Small facts on truth values, and cases on them.
 use Prim.Native.Nat.{ℕ, _≤_, _<_}
-use mathlib.Core.Bool.{Bool, true, false, _||_}
-use mathlib.Core.Logic.{_⊎_, inl, inr}
-use mathlib.Core.Path.{_≡_, refl, sym}
-use lib.Dec.{ltb}
+use mathlib.Core.Bool.{Bool, true, false, not, _||_}
+use mathlib.Core.Logic.{_⊎_, inl, inr, ⊎-elim}
+use mathlib.Core.Path.{_≡_, refl, sym, _∙_, ap}
+use lib.Dec.{leb, ltb}
 use native.Mathlib.Omega.{arith}
-use borrow.Author.Tests.{ltb-true, ltb-false}
+use borrow.Author.Tests.{lt-ltb, le-ltb, lt-leb, le-leb, ltb-true, ltb-false}
 
 -- One of two holds.
 pub lt-or-ge : (a b : ℕ) → (a < b) ⊎ (b ≤ a)
@@ -14,6 +14,21 @@ lt-or-ge a b = go (ltb a b) refl
     go : (t : Bool) → ltb a b ≡ t → (a < b) ⊎ (b ≤ a)
     go true e = inl (ltb-true a b e)
     go false e = inr (ltb-false a b e)
+
+-- The one order's test is the other's, the other way round.
+pub ltb-not : (a b : ℕ) → ltb a b ≡ not (leb b a)
+ltb-not a b =
+    ⊎-elim
+    (λ lt. lt-ltb a b lt ∙ sym (ap not (lt-leb b a lt)))
+    (λ ge. le-ltb a b ge ∙ sym (ap not (le-leb b a ge)))
+    (lt-or-ge a b)
+
+pub leb-not : (a b : ℕ) → leb a b ≡ not (ltb b a)
+leb-not a b =
+    ⊎-elim
+    (λ lt. lt-leb a b lt ∙ sym (ap not (lt-ltb b a lt)))
+    (λ ge. le-leb a b ge ∙ sym (ap not (le-ltb b a ge)))
+    (lt-or-ge b a)
 
 pub bool : (t : Bool) → (t ≡ true) ⊎ (t ≡ false)
 bool true = inl refl

@@ -1,9 +1,8 @@
 -- Receiving a datagram into both halves, a law for each way out.
-use Prim.Native.Nat.{ℕ, _≤_}
+use Prim.Native.Nat.{ℕ}
 use mathlib.Core.Bool.{Bool, true, false, cond}
 use mathlib.Core.List.{List}
 use mathlib.Core.Path.{_≡_, refl, sym, _∙_, ap}
-use native.Mathlib.Omega.{arith}
 use lib.ListN.{length}
 use lib.Dec.{eqb}
 use borrow.Author.Tests.{eq-eqb, ne-eqb}
@@ -28,7 +27,6 @@ use Rattle.sender.specs.Acknowledge.{acknowledging, Told, silent, toldAnswer, t
 use Rattle.sender.specs.Chosen.{chosenBy}
 use Rattle.sender.specs.Turn.{turnedOf}
 use Rattle.sender.specs.Walk.{appliedOf}
-use Rattle.sender.specs.Facts.{consistent-facts}
 use Rattle.endpoint.specs.Receive.{Halves, halves, soundOf, packetAnswer, packetOf, readAnswer, readInto, receiveAnswer, receiveOf}
 
 -- an answer, both records and a store that are what receiving answers and leaves
@@ -75,10 +73,6 @@ tells-first a b t h k = rw (← h, k) refl
 
 pub tells-second : (a b t u : Bool) → t ≡ a → t ≡ false → u ≡ b → u ≡ either a b
 tells-second a b t u h k l = rw (← h, k) l
-
--- the lows of a consistent record stand in range
-pub lows-fit : (s : Sender) → senderTests.consistentOf 32 32 s ≡ true → (s .low .0 ≤ 4294967296) × (s .channellow .0 ≤ 4294967296)
-lows-fit s h = let b = consistent-facts 32 32 s (omega arith) (omega arith) h .bounds in (omega (arith, b .next, b .full), omega (arith, b .channelnext, b .channelfull))
 
 module _ (s : Sender) (r : Receiver) (store d : List ℕ) where
   -- 13, three ways

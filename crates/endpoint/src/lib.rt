@@ -31,14 +31,14 @@ pub struct Opened {
     pub receiver: Receiver,
 }
 
-// What receiving a datagram answers: document 01's number, and both records after the call.
+// What receiving a datagram answers: document 01's number, and both records after the call; they stand first, which spares copies of them.
 pub struct Received {
-    // Document 01's number.
-    pub answer: u8,
     // The sender's record after the call.
     pub sender: Sender,
     // The receiver's record after the call.
     pub receiver: Receiver,
+    // Document 01's number.
+    pub answer: u8,
 }
 
 // Is an opening value out of range?
@@ -97,69 +97,69 @@ pub fn receive(s: Sender, r: Receiver, store: &mut [u8], d: &[u8]) -> Received
 {
     if store.len() != receiver::STORE {
         return Received {
-            answer: 13,
             sender: s,
             receiver: r,
+            answer: 13,
         };
     }
     if !sender::checking::consistent(s) {
         return Received {
-            answer: 13,
             sender: s,
             receiver: r,
+            answer: 13,
         };
     }
     if !receiver::checking::consistent(r) {
         return Received {
-            answer: 13,
             sender: s,
             receiver: r,
+            answer: 13,
         };
     }
     match wire::reader::read(d) {
         Reading::Refused(n) => Received {
-            answer: n,
             sender: s,
             receiver: r,
+            answer: n,
         },
         Reading::Dummy => Received {
-            answer: 0,
             sender: s,
             receiver: r,
+            answer: 0,
         },
         Reading::Read(p) => {
             let values = p.values;
             let told = acknowledging::judge(s, d, p);
             if told.answer != 0 {
                 return Received {
-                    answer: told.answer,
                     sender: s,
                     receiver: r,
+                    answer: told.answer,
                 };
             }
             let arrived = packet::judge(r, values);
             let number = packet::number(arrived);
             if number != 0 {
                 return Received {
-                    answer: number,
                     sender: s,
                     receiver: r,
+                    answer: number,
                 };
             }
             let q = packet::apply(r, store, d, p, arrived);
             if !tells(values.flags) {
                 return Received {
-                    answer: 0,
                     sender: s,
                     receiver: q,
+                    answer: 0,
                 };
             }
             let flags = told.flags;
             let t = turning::turn(s, flags, told.upto, sender::RECEIVED, sender::ACKNOWLEDGED);
             Received {
-                answer: 0,
                 sender: t,
                 receiver: q,
+                answer: 0,
             }
         }
     }

@@ -15,9 +15,11 @@ pub enum Widened {
 }
 
 // A full data number.
+#[repr(C)]
 pub struct DataNumber(pub u64);
 
 // A full channel number.
+#[repr(C)]
 pub struct ChannelNumber(pub u64);
 
 // What a field widens to as a data number.

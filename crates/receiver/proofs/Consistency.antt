@@ -1,63 +1,93 @@
 -- A record's consistency: a law for each way out of the functions that test it, and what a consistent record tells.
 use Prim.Native.Nat.{ℕ, _+_, _-_, _%_, _≤_, _<_}
-use mathlib.Core.Bool.{Bool, true, false, not}
+use mathlib.Core.Bool.{Bool, true, false, cond, not, _&&_, _||_}
 use mathlib.Core.List.{List, [], _∷_, map}
-use mathlib.Core.Path.{_≡_, sym, _∙_, ap}
+use mathlib.Core.Path.{_≡_, refl, sym, _∙_, ap}
+use native.Mathlib.Omega.{arith}
 use lib.ListN.{length, getD, length-map}
 use lib.Dec.{eqb, leb, ltb}
-use borrow.Author.Tests.{lt-ltb, le-ltb, le-leb, lt-leb, eq-eqb, ne-eqb, leb-true, eqb-true}
+use borrow.Author.Tests.{lt-ltb, le-ltb, le-leb, lt-leb, eq-eqb, ne-eqb, leb-true, eqb-true, not-false}
 use Rattle.common.specs.Every.{every, allBelow, implies}
+use Rattle.common.specs.Facts.{ltb-not, leb-not, clash, not-so}
+use Rattle.window.specs.Places.{pastOf}
+use Rattle.window.specs.EachPlace.{countOf, all-placed, past-below}
 use Rattle.receiver.specs.declared.Hold.{Hold}
 use Rattle.receiver.specs.declared.Receiver.{Receiver}
-use Rattle.receiver.specs.Record.{highest, isMarked, empty, markAt}
-use Rattle.receiver.specs.Consistent.{isFlag, markOk, holdOk, spareMark, spareHold, consistencyTests, consistentOf, soundOf}
-use Rattle.receiver.specs.Checking.{boundTests, boundsOk, markFine, holdFine, soundBy}
-use Rattle.common.specs.EveryLaws.{every-at, every-fails, every-later, every-skip, every-front, every-back, every-last, every-none, every-made, every-one, implies-if, implies-else, all-fails, all-from, all-at}
+use Rattle.receiver.specs.Record.{highest, isMarked, isHeld, empty, markAt, holdAt}
+use Rattle.receiver.specs.Consistent.{markOk, holdOk, spareMark, spareHold, consistencyTests, consistentOf, soundOf}
+use Rattle.receiver.specs.Checking.{boundTests, boundsOk, markFine, holdKept, heldLow, soundBy}
+use Rattle.common.specs.EveryLaws.{every-at, every-fails, every-later, every-skip, every-front, every-back, every-last, every-none, every-made, every-one, implies-if, implies-else, imply, all-from, all-at, all-both}
 
 -- ONE PLACE
 
-pub mark-wide : (m n end : ℕ) → 1 < m → false ≡ markFine m n end
-unfolding markFine
-mark-wide m n end h = every-fails (isFlag m ∷ implies (isMarked m) (ltb n end) ∷ []) 0 (lt-leb m 1 h)
+pub mark-wrong-is : (m past span : ℕ) → (ltb 1 m || (eqb m 1 && leb span past)) ≡ not (markFine m past span)
+unfolding markFine every implies
+mark-wrong-is m past span = rw (ltb-not 1 m, leb-not span past) (go (leb m 1) (eqb m 1) (ltb past span))
+  where
+    go : (flag one below : Bool) → (not flag || (one && not below)) ≡ not (cond flag (cond (cond one below true) true false) false)
+    go true true true = refl
+    go true true false = refl
+    go true false below = refl
+    go false one below = refl
 
-pub mark-set : (m n end : ℕ) → m ≤ 1 → m ≡ 1 → ltb n end ≡ markFine m n end
-unfolding markFine
-mark-set m n end h e =
-    implies-if (isMarked m) (ltb n end) (eq-eqb m 1 e) ∙ every-last (implies (isMarked m) (ltb n end)) ∙ every-skip _ _ (le-leb m 1 h)
+pub hold-wrong-is : (h : Hold) → ((isHeld h && ltb 1225 (h .length)) || (not (isHeld h) && (not (eqb (h .held) 0) || not (eqb (h .length) 0)))) ≡ not (holdKept h)
+unfolding holdKept every
+hold-wrong-is h = rw (ltb-not 1225 (h .length)) (go (isHeld h) (leb (h .length) 1225) (eqb (h .held) 0) (eqb (h .length) 0))
+  where
+    go : (held short none zero : Bool) → ((held && not short) || (not held && (not none || not zero))) ≡ not (cond held short (cond none (cond zero true false) false))
+    go true true none zero = refl
+    go true false none zero = refl
+    go false short true true = refl
+    go false short true false = refl
+    go false short false zero = refl
 
-pub mark-unset : (m n end : ℕ) → m ≤ 1 → (m ≡ 1 → ⊥) → true ≡ markFine m n end
-unfolding markFine
-mark-unset m n end h e =
-    implies-else (isMarked m) (ltb n end) (ne-eqb m 1 e) ∙ every-last (implies (isMarked m) (ltb n end)) ∙ every-skip _ _ (le-leb m 1 h)
+pub held-high : (holds : List Hold) (due room j past : ℕ) → past ≡ pastOf 32 due j → (isHeld (getD holds j empty) && leb room past) ≡ not (heldLow 32 holds due room j)
+unfolding heldLow implies
+held-high holds due room j past e = rw (e, leb-not room (pastOf 32 due j)) (go (isHeld (getD holds j empty)) (ltb (pastOf 32 due j) room))
+  where
+    go : (held low : Bool) → (held && not low) ≡ not (cond held low true)
+    go true low = refl
+    go false low = refl
 
-module _ (h : Hold) (c : ℕ) where
-  pub hold-long : h .held ≡ 1 → 1225 < h .length → false ≡ holdFine h c
-  unfolding holdFine
-  hold-long e l = rw (eq-eqb (h .held) 1 e) (every-fails (leb (h .length) 1225 ∷ leb c highest ∷ []) 0 (lt-leb (h .length) 1225 l))
+-- Where room is the whole window, no place lies past it.
+pub all-low : (holds : List Hold) (due room : ℕ) → 32 ≤ room → false ≡ not (allBelow (heldLow 32 holds due room) 32)
+unfolding heldLow
+all-low holds due room l = ap not (sym (all-from (heldLow 32 holds due room) 32 λ j u. imply _ _ λ t. lt-ltb (pastOf 32 due j) room (omega arith)))
 
-  pub hold-fits : h .held ≡ 1 → h .length ≤ 1225 → leb c highest ≡ holdFine h c
-  unfolding holdFine
-  hold-fits e l = rw (eq-eqb (h .held) 1 e) (every-last (leb c highest) ∙ every-skip _ _ (le-leb (h .length) 1225 l))
+-- THE PLACES, in their own order
 
-  pub hold-wide : (h .held ≡ 1 → ⊥) → (h .held ≡ 0 → ⊥) → false ≡ holdFine h c
-  unfolding holdFine
-  hold-wide e z = rw (ne-eqb (h .held) 1 e) (every-fails (eqb (h .held) 0 ∷ eqb (h .length) 0 ∷ []) 0 (ne-eqb (h .held) 0 z))
+-- place j, with what its number's distance from base or due says
+abbrev pub markPlaced : ℕ → Receiver → ℕ → Bool
+markPlaced w r j = markFine (getD (r .marks) j 0) (pastOf w (r .base .0) j) (countOf w (r .base .0) (r .end .0))
 
-  pub hold-unused : (h .held ≡ 1 → ⊥) → h .held ≡ 0 → eqb (h .length) 0 ≡ holdFine h c
-  unfolding holdFine
-  hold-unused e z = rw (ne-eqb (h .held) 1 e) (every-last (eqb (h .length) 0) ∙ every-skip _ _ (eq-eqb (h .held) 0 z))
+abbrev pub keptPlaced : Receiver → ℕ → Bool
+keptPlaced r j = holdKept (getD (r .holds) j empty)
 
--- THE I-TH PLACE, as the loops read it
+abbrev lowPlaced : ℕ → Receiver → ℕ → Bool
+lowPlaced w r = heldLow w (r .holds) (r .due .0) (countOf w (r .due .0) 4294967296)
 
-pub mark-here : (w : ℕ) (r : Receiver) (i at : ℕ) (b t : Bool) → at ≡ (r .base .0 + i) % w
-    → b ≡ markFine (getD (r .marks) at 0) (r .base .0 + i) (r .end .0) → b ≡ t → markOk w r i ≡ t
+marks-placed : (w : ℕ) (r : Receiver) → allBelow (markOk w r) w ≡ allBelow (markPlaced w r) w
 unfolding markOk markFine
-mark-here w r i at b t a e h = rw a at (sym e) ∙ h
+marks-placed w r = all-placed w (r .base .0) (markOk w r) (markPlaced w r) λ i l. rw (past-below w (r .base .0) (r .end .0) i l) refl
 
-pub hold-here : (w : ℕ) (r : Receiver) (i at : ℕ) (b t : Bool) → at ≡ (r .due .0 + i) % w
-    → b ≡ holdFine (getD (r .holds) at empty) (r .due .0 + i) → b ≡ t → holdOk w r i ≡ t
-unfolding holdOk holdFine
-hold-here w r i at b t a e h = rw a at (sym e) ∙ h
+holds-placed : (w : ℕ) (r : Receiver) → allBelow (holdOk w r) w ≡ every (allBelow (keptPlaced r) w ∷ allBelow (lowPlaced w r) w ∷ [])
+unfolding holdOk holdKept heldLow every implies
+holds-placed w r =
+    all-placed w (r .due .0) (holdOk w r) (λ j. every (keptPlaced r j ∷ lowPlaced w r j ∷ []))
+    (λ i l. let h = holdAt w r (r .due .0 + i) in
+    rw (full (r .due .0 + i), past-below w (r .due .0) 4294967296 i l)
+    (go (isHeld h) (leb (h .length) 1225) (ltb (pastOf w (r .due .0) ((r .due .0 + i) % w)) (countOf w (r .due .0) 4294967296)) (every (eqb (h .held) 0 ∷ eqb (h .length) 0 ∷ []))))
+    ∙ all-both (keptPlaced r) (lowPlaced w r) w
+  where
+    full : (n : ℕ) → leb n highest ≡ ltb n 4294967296
+    full n = leb-not n highest ∙ sym (ltb-not n 4294967296)
+
+    go : (held short low none : Bool) → cond held (cond short (cond low true false) false) none ≡ cond (cond held short none) (cond (cond held low true) true false) false
+    go true true true none = refl
+    go true true false none = refl
+    go true false low none = refl
+    go false short low true = refl
+    go false short low false = refl
 
 -- THE WHOLE RECORD
 
@@ -118,22 +148,41 @@ module _ (r : Receiver) where
   unfolding consistentOf
   end-fails h = every-fails (consistencyTests 32 32 r) 11 (lt-leb (r .end .0) (r .base .0 + 32) h)
 
-  pub mark-fails : (i : ℕ) → i < 32 → markOk 32 r i ≡ false → false ≡ consistentOf 32 32 r
-  unfolding consistentOf
-  mark-fails i l h = every-fails (consistencyTests 32 32 r) 13 (sym (all-fails (markOk 32 r) 32 i l h))
+  -- the flag that the loops raise, and what lies above the full range
+  abbrev placed : List Bool
+  placed = allBelow (markPlaced 32 r) 32 ∷ allBelow (keptPlaced r) 32 ∷ []
 
-  pub hold-fails : (i : ℕ) → i < 32 → holdOk 32 r i ≡ false → false ≡ consistentOf 32 32 r
+  abbrev low : Bool
+  low = allBelow (lowPlaced 32 r) 32
+
+  abbrev heldTests : List Bool
+  heldTests = allBelow (keptPlaced r) 32 ∷ low ∷ []
+
+  pub places-fail : (flag : Bool) → flag ≡ not (every placed) → flag ≡ true → false ≡ consistentOf 32 32 r
   unfolding consistentOf
-  hold-fails i l h = every-fails (consistencyTests 32 32 r) 14 (sym (all-fails (holdOk 32 r) 32 i l h))
+  places-fail flag e t =
+      sym
+      (not-so _ λ h.
+      clash flag t
+      (e
+      ∙ ap not
+      (every-made _ _ (sym (marks-placed 32 r) ∙ every-at (consistencyTests 32 32 r) h 13)
+      (every-made _ _ (every-at heldTests (sym (holds-placed 32 r) ∙ every-at (consistencyTests 32 32 r) h 14) 0) every-none))))
+
+  pub beyond-fails : (high : Bool) → high ≡ not low → high ≡ true → false ≡ consistentOf 32 32 r
+  unfolding consistentOf
+  beyond-fails high e t =
+      sym (not-so _ λ h. clash high t (e ∙ ap not (every-at heldTests (sym (holds-placed 32 r) ∙ every-at (consistencyTests 32 32 r) h 14) 1)))
 
   -- all but the number before end
   module _ (marksSized : length (r .marks) ≡ 32) (holdsSized : length (r .holds) ≡ 32) (b : Bool) (bounds : b ≡ inBounds) (t : b ≡ true)
       (at : ℕ) (place : at ≡ r .base .0 % 32) (base : getD (r .marks) at 0 ≡ 1 → ⊥) (near : r .end .0 ≤ r .base .0 + 32)
-      (marks : true ≡ allBelow (markOk 32 r) 32) (holds : true ≡ allBelow (holdOk 32 r) 32) where
+      (flag : Bool) (places : flag ≡ not (every placed)) (lowered : flag ≡ false) (high : Bool) (above : high ≡ not low) (none : high ≡ false) where
     decided : endStands r ≡ consistentOf 32 32 r
     unfolding consistentOf boundsOk
     decided =
-        every-one (endStands r) _ (every-made _ _ (sym marks) (every-made _ _ (sym holds) (every-made _ _ (spare-marks r) (every-made _ _ (spare-holds r) every-none))))
+        let each : every placed ≡ true = not-false _ (sym places ∙ lowered) in
+        every-one (endStands r) _ (every-made _ _ (marks-placed 32 r ∙ every-at placed each 0) (every-made _ _ (holds-placed 32 r ∙ every-made _ _ (every-at placed each 1) (every-made _ _ (not-false _ (sym above ∙ none)) every-none)) (every-made _ _ (spare-marks r) (every-made _ _ (spare-holds r) every-none))))
         ∙ every-skip _ _ (le-leb (r .end .0) (r .base .0 + 32) near)
         ∙ every-skip _ _ (ap not (ne-eqb (markAt 32 r (r .base .0)) 1 (rw place at base)))
         ∙ every-back boundsOf (placesOf r) (sym bounds ∙ t)

@@ -1,10 +1,11 @@
-// Is a record consistent? Every place is looked at once.
+// Is a record consistent? Places are looked at in their own order, and a block's place again only near the end of the full range.
 ghost use mathlib.Core.Path.{_≡_};
+ghost use mathlib.Core.Bool.{not};
+ghost use Rattle.common.specs.Every.{allBelow};
 ghost use Rattle.receiver.specs.Consistent.{consistentOf, soundOf};
-ghost use Rattle.receiver.specs.Checking.{boundsOk, markFine, holdFine, soundBy};
+ghost use Rattle.receiver.specs.Checking.{boundsOk, markFine, holdKept, heldLow, soundBy};
 use crate::Hold;
 use crate::Receiver;
-use numbers::ChannelNumber;
 use numbers::DataNumber;
 
 // Do the firsts, base, end and due lie in their ranges?
@@ -35,36 +36,41 @@ fn bounds_ok(firstdata: u64, firstchannel: u64, base: u64, end: u64, due: u64) -
     due <= crate::PAST
 }
 
-// Is what stands at the place of number n a mark below end, or none?
-fn mark_ok(m: u8, n: u64, end: u64) -> bool
-    ensures { λ r. ⌜ r ≡ markFine m n end ⌝ }
+// Is what stands at a number's place neither a mark below end nor none? The number lies `past` numbers past base, and `span`
+// numbers from base on lie below end.
+fn mark_wrong(m: u8, past: u8, span: u8) -> bool
+    ensures { λ r. ⌜ r ≡ not (markFine m past span) ⌝ }
 {
-    if 1 < m {
-        return false;
-    }
-    if m == 1 {
-        return n < end;
-    }
-    true
+    (1 < m) | ((m == 1) & (span <= past))
 }
 
-// Is what stands at the place of block c a block that can be, or nothing at all?
-fn hold_ok(h: Hold, c: u64) -> bool
-    ensures { λ r. ⌜ r ≡ holdFine h c ⌝ }
+// Is what stands at a block's place neither a block that can be, whatever its number, nor nothing at all?
+fn hold_wrong(h: Hold) -> bool
+    ensures { λ r. ⌜ r ≡ not (holdKept h) ⌝ }
 {
-    if h.held == 1 {
-        if crate::LONGEST < h.length {
-            return false;
-        }
-        return c <= crate::HIGHEST;
-    }
-    if h.held != 0 {
-        return false;
-    }
-    h.length == 0
+    let held = h.held == 1;
+    (held & (crate::LONGEST < h.length)) | (!held & ((h.held != 0) | (h.length != 0)))
 }
 
-// Is the record consistent?
+// Is a block held that is not among the first `room` blocks from due on? Where room is the whole window, none can be.
+fn beyond(holds: [Hold; 32], due: u64, room: u8) -> bool
+    ensures { λ r. ⌜ r ≡ not (allBelow (heldLow 32 holds due room) 32) ⌝ }
+{
+    if window::WHOLE <= room {
+        return false;
+    }
+    let mut wrong = false;
+    let mut k: usize = 0;
+    while k < window::PLACES {
+        let h = holds[k];
+        let past = window::past(k, due);
+        wrong = wrong | ((h.held == 1) & (room <= past));
+        k += 1;
+    }
+    wrong
+}
+
+// Is the record consistent? No branch leaves the loops, so that many places are looked at together.
 pub fn consistent(r: Receiver) -> bool
     ensures { λ b. ⌜ b ≡ consistentOf 32 32 r ⌝ }
 {
@@ -81,25 +87,28 @@ pub fn consistent(r: Receiver) -> bool
     if base + DataNumber::WINDOW < end {
         return false;
     }
+    let span = window::count(base, end);
+    let mut wrong = false;
     // Every mark lies below end.
-    let mut i: u64 = 0;
-    while i < DataNumber::WINDOW {
-        let at = window::data_place(base + i);
-        let m = r.marks[at];
-        if !mark_ok(m, base + i, end) {
-            return false;
-        }
+    let mut i: usize = 0;
+    while i < window::PLACES {
+        let m = r.marks[i];
+        wrong = wrong | mark_wrong(m, window::past(i, base), span);
         i += 1;
     }
     // Every place for a block holds one that can be, or nothing.
-    let mut k: u64 = 0;
-    while k < ChannelNumber::WINDOW {
-        let at = window::channel_place(due + k);
-        let h = r.holds[at];
-        if !hold_ok(h, due + k) {
-            return false;
-        }
+    let mut k: usize = 0;
+    while k < window::PLACES {
+        let h = r.holds[k];
+        wrong = wrong | hold_wrong(h);
         k += 1;
+    }
+    if wrong {
+        return false;
+    }
+    // No block above the full range is held.
+    if beyond(r.holds, due, window::count(due, crate::PAST)) {
+        return false;
     }
     // Where end lies above base, the number before it is marked.
     if base < end {

@@ -34,6 +34,7 @@ pub const HIGHEST: u64 = 4294967295;
 pub const PAST: u64 = HIGHEST + 1;
 
 // A place for a block.
+#[repr(C)]
 pub struct Hold {
     // 1 where a block is held, and else 0.
     pub held: u8,
@@ -42,6 +43,7 @@ pub struct Hold {
 }
 
 // The receiver's record.
+#[repr(C)]
 pub struct Receiver {
     // The first data number.
     pub firstdata: DataNumber,
@@ -59,12 +61,12 @@ pub struct Receiver {
     pub holds: [Hold; 32],
 }
 
-// What receiving a datagram answers: document 01's number, and the record after the call.
+// What receiving a datagram answers: document 01's number, and the record after the call; it stands first, which spares copies of it.
 pub struct Received {
-    // Document 01's number.
-    pub answer: u8,
     // The record after the call.
     pub receiver: Receiver,
+    // Document 01's number.
+    pub answer: u8,
 }
 
 // What taking a block answers, and the record after the call.
@@ -100,26 +102,26 @@ pub fn receive(r: Receiver, store: &mut [u8], d: &[u8]) -> Received
 {
     if !checking::sized(checking::consistent(r), store.len()) {
         return Received {
-            answer: 13,
             receiver: r,
+            answer: 13,
         };
     }
     match wire::reader::read(d) {
         Reading::Refused(n) => Received {
-            answer: n,
             receiver: r,
+            answer: n,
         },
         Reading::Dummy => Received {
-            answer: 0,
             receiver: r,
+            answer: 0,
         },
         Reading::Read(p) => {
             let values = p.values;
             let a = packet::judge(r, values);
             let q = packet::apply(r, store, d, p, a);
             Received {
-                answer: packet::number(a),
                 receiver: q,
+                answer: packet::number(a),
             }
         }
     }

@@ -25,7 +25,6 @@ use Rattle.sender.specs.Turn.{turnedOf}
 use Rattle.sender.specs.Chosen.{chosenBy}
 use Rattle.sender.specs.Acknowledge.{acknowledging, toldBy, toldAnswer, toldOf, readAnswer, readInto, acknowledgeAnswer, acknowledgeOf}
 use Rattle.sender.specs.Walk.{walkOf, nothing, judgeUpTo, fromWalk, judgeListed, appliedOf}
-use Rattle.sender.proofs.Passing.{consistent-passes, range-facts}
 
 data-at : (a : Widened) (n : DataNumber) → DataAt n ≡ dataOf a → a ≡ At (n .0)
 data-at a n h = sym (ap fromData h ∙ from-data a)
@@ -94,13 +93,6 @@ applied-not s j h = unless _ _ _ _ (ne-eqb _ _ h) refl
 applied-so : (s r : Sender) (j : Judged) → j .answer ≡ 0 → r ≡ turnedOf 32 acknowledging (chosenBy 32 (j .flags) (j .upto)) s → r ≡ appliedOf 32 s j
 unfolding appliedOf
 applied-so s r j h e = when _ _ _ _ (eq-eqb _ _ h) e
-
-pub lows-fit : (s : Sender) → consistentOf 32 32 s ≡ true → (s .low .0 ≤ 4294967296) × (s .channellow .0 ≤ 4294967296) × (s .next .0 ≤ 4294967296)
-lows-fit s h =
-    let p = consistent-passes s h in
-    let a = range-facts (s .firstdata .0) (s .low .0) (s .next .0) (p .range) in
-    let b = range-facts (s .firstchannel .0) (s .channellow .0) (s .channelnext .0) (p .channels) in
-    (omega (arith, a .forth, a .nextFits), omega (arith, b .forth, b .nextFits), a .nextFits)
 
 -- the whole call
 pub ack-unfit : (s : Sender) (d : List ℕ) → consistentOf 32 32 s ≡ false → (13 ≡ acknowledgeAnswer 32 32 s d) × (s ≡ acknowledgeOf 32 32 s d)

@@ -31,6 +31,3 @@ bad-number s i l t = fails _ _ (λ h. consistent-passes s h .numbers) (sym (all-
 
 pub bad-blocks : (s : Sender) → allBelow (blockOk 32 s) 32 ≡ false → false ≡ consistentOf 32 32 s
 bad-blocks s t = fails _ _ (λ h. consistent-passes s h .blocks) t
-
-pub bad-block : (s : Sender) (j : ℕ) → j < 32 → blockOk 32 s j ≡ false → false ≡ consistentOf 32 32 s
-bad-block s j l t = bad-blocks s (sym (all-fails (blockOk 32 s) 32 j l t))

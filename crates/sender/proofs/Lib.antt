@@ -2,6 +2,7 @@
 mod Passing
 mod Marks
 mod Judged
+mod Placed
 mod Turned
 mod Walking
 mod Naming

@@ -79,6 +79,25 @@ range-facts first low next h =
     let r : (i : ℕ) → getD (ranges first low next) i true ≡ true = every-at (ranges first low next) h in
     record { firstFits = leb-true _ _ (r 0); from = leb-true _ _ (r 1); forth = leb-true _ _ (r 2); nextFits = leb-true _ _ (r 3); room = leb-true _ _ (r 4) }
 
+-- what is tested before any place but the lows' own
+pub record Begun (s : Sender) : Type 0 where
+  pub numbersSized : length (s .numbers) ≡ 32
+  pub blocksSized : length (s .blocks) ≡ 32
+  pub range : rangeOf 32 (s .firstdata .0) (s .low .0) (s .next .0) ≡ true
+  pub channels : rangeOf 32 (s .firstchannel .0) (s .channellow .0) (s .channelnext .0) ≡ true
+  pub time : timeoutOf (s .timeout) ≡ true
+  pub stands : numberPasses (numberAt 32 s (s .low .0)) ≡ false
+  pub blockStands : isAcknowledged (blockAt 32 s (s .channellow .0)) ≡ false
+
+pub data-range : (s : Sender) → Begun s → Range (s .firstdata .0) (s .low .0) (s .next .0)
+data-range s h = range-facts _ _ _ (h .range)
+
+pub block-range : (s : Sender) → Begun s → Range (s .firstchannel .0) (s .channellow .0) (s .channelnext .0)
+block-range s h = range-facts _ _ _ (h .channels)
+
+pub begun-passes : (s : Sender) → Begun s → allBelow (numberOk 32 s) 32 ≡ true → allBelow (blockOk 32 s) 32 ≡ true → Passes s
+begun-passes s h n b = record { range = h .range; channels = h .channels; time = h .time; stands = h .stands; blockStands = h .blockStands; numbers = n; blocks = b }
+
 -- the store's size and the record
 pub unsized : (s : Sender) (size : ℕ) → (size ≡ 39200 → ⊥) → false ≡ soundOf 32 32 s size
 unfolding soundOf

@@ -1,14 +1,17 @@
 -- Turning, number by number, and both lows moving on: a law for each step of the code.
-use Prim.Native.Nat.{ℕ, zero, suc, _+_, _-_, _≤_, _<_}
+use Prim.Native.Nat.{ℕ, zero, suc, _+_, _-_, _%_, _≤_, _<_}
 use mathlib.Core.Bool.{Bool, true, false, cond}
 use mathlib.Core.Logic.{⊎-elim}
 use mathlib.Core.Path.{_≡_, refl, sym, _∙_, ap}
 use native.Mathlib.Omega.{arith}
 use native.Mathlib.Numerals.{add-one}
 use Rattle.common.specs.Facts.{bool}
+use lib.Seq.{getD-set-other}
+use Rattle.window.specs.Places.{place-same}
 use Rattle.window.specs.Window.{passed, slid}
 use Rattle.sender.specs.declared.Sender.{Sender}
 use Rattle.sender.specs.Record.{isPending, isAcknowledged, numberPasses, noNumber, noBlock, numbersOf, blocksOf, numberAt, blockAt}
+use Rattle.sender.specs.Turnable.{Turnable}
 use Rattle.sender.specs.Turn.{Turn, turnedAt, turnOne, turnUpTo, withNumbers, withBlocks, numbersMoved, blocksMoved, turnedOf}
 
 -- the first i numbers from low on
@@ -32,6 +35,42 @@ unfolding turnUpTo turnOne
 turn-skip t chosen s q i h e =
     ap (λ (b : Bool). cond b (turnedAt 32 t q (s .low .0 + i)) q) (sym e) ∙ ap (λ (x : Sender). turnOne 32 t chosen x (s .low .0 + i)) h
     ∙ ap (turnUpTo 32 t chosen s) (sym (add-one i))
+
+-- The places of numbers that have not had their turn are as they were.
+later-kept : (t : Turn) (chosen : ℕ → Bool) (s : Sender) (i n : ℕ) → s .low .0 + i ≤ n → n < s .low .0 + 32 → numberAt 32 (turnUpTo 32 t chosen s i) n ≡ numberAt 32 s n
+unfolding turnUpTo turnOne
+later-kept t chosen s zero n l u = refl
+later-kept t chosen s (suc i) n l u = go (turning chosen q m) ∙ later-kept t chosen s i n (omega arith) u
+  where
+    m : ℕ
+    m = s .low .0 + i
+
+    q : Sender
+    q = turnUpTo 32 t chosen s i
+
+    go : (b : Bool) → numberAt 32 (cond b (turnedAt 32 t q m) q) n ≡ numberAt 32 q n
+    go true =
+        getD-set-other (q .numbers) (m % 32) (n % 32) _ noNumber
+        (λ e. absurd (omega (arith, place-same 32 (s .low .0) n m (omega arith) u (omega arith) (omega arith) e)))
+    go false = refl
+
+-- From next on no number turns.
+turn-rest : (t : Turn) (chosen : ℕ → Bool) (s q : Sender) (i k : ℕ) → Turnable 32 s → q ≡ turnUpTo 32 t chosen s i → s .next .0 ≤ s .low .0 + i → i + k ≤ 32
+    → q ≡ turnUpTo 32 t chosen s (i + k)
+turn-rest t chosen s q i zero h e l u = e ∙ ap (turnUpTo 32 t chosen s) (let z : i ≡ i + 0 = omega arith in z)
+turn-rest t chosen s q i (suc k) h e l u =
+    let r = turn-rest t chosen s q i k h e l (omega arith) in
+    let idle : isPending (numberAt 32 q (s .low .0 + (i + k))) ≡ false =
+    ap (λ (x : Sender). isPending (numberAt 32 x (s .low .0 + (i + k)))) r
+    ∙ ap isPending (later-kept t chosen s (i + k) (s .low .0 + (i + k)) (omega arith) (omega arith))
+    ∙ h .idle (s .low .0 + (i + k)) (omega arith) (omega arith) in
+    turn-skip t chosen s q (i + k) r (ap (λ (b : Bool). cond b (chosen (s .low .0 + (i + k))) false) idle)
+    ∙ ap (turnUpTo 32 t chosen s) (let z : i + k + 1 ≡ i + suc k = omega arith in z)
+
+pub turn-all : (t : Turn) (chosen : ℕ → Bool) (s q : Sender) (i : ℕ) → Turnable 32 s → q ≡ turnUpTo 32 t chosen s i → s .low .0 + i ≡ s .next .0
+    → q ≡ turnUpTo 32 t chosen s 32
+turn-all t chosen s q i h e l =
+    turn-rest t chosen s q i (32 - i) h e (omega arith) (omega (arith, h .room)) ∙ ap (turnUpTo 32 t chosen s) (let z : i + (32 - i) ≡ 32 = omega (arith, h .room) in z)
 
 -- Both lows stay where they are meanwhile.
 pub record Lows (s q : Sender) : Type 0 where

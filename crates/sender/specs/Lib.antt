@@ -27,3 +27,4 @@ pub mod TurnedFacts
 pub mod SentFacts
 pub mod SendReady
 pub mod Tells
+pub mod Turnable

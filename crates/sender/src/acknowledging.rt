@@ -40,12 +40,12 @@ pub struct Judged {
     pub upto: u64,
 }
 
-// What the call answers, and the record.
+// What the call answers, and the record; it stands first, which spares copies of it.
 pub struct Acknowledged {
-    // Document 01's number.
-    pub answer: u8,
     // The record after the call.
     pub sender: Sender,
+    // Document 01's number.
+    pub answer: u8,
 }
 
 // Was number n named, and never sent?
@@ -222,32 +222,32 @@ pub fn acknowledge(s: Sender, d: &[u8]) -> Acknowledged
 {
     if !checking::consistent(s) {
         return Acknowledged {
-            answer: 13,
             sender: s,
+            answer: 13,
         };
     }
     match reader::read(d) {
         Reading::Refused(n) => Acknowledged {
-            answer: n,
             sender: s,
+            answer: n,
         },
         Reading::Dummy => Acknowledged {
-            answer: 0,
             sender: s,
+            answer: 0,
         },
         Reading::Read(p) => {
             let j = judge(s, d, p);
             if j.answer != 0 {
                 return Acknowledged {
-                    answer: j.answer,
                     sender: s,
+                    answer: j.answer,
                 };
             }
             let flags = j.flags;
             let q = turning::turn(s, flags, j.upto, crate::RECEIVED, crate::ACKNOWLEDGED);
             Acknowledged {
-                answer: 0,
                 sender: q,
+                answer: 0,
             }
         }
     }

@@ -1,14 +1,18 @@
-// Is a record consistent? One pass over the numbers' places and one over the blocks'.
+// Is a record consistent? One pass over the numbers in range, then one over the numbers' places and one over the blocks'.
 ghost use mathlib.Core.Path.{_≡_};
-ghost use mathlib.Core.Bool.{true, false, cond};
-ghost use lib.Dec.{eqb};
+ghost use mathlib.Core.Bool.{true, false, cond, not};
+ghost use lib.Dec.{eqb, leb};
+ghost use Rattle.common.specs.Every.{implies};
 ghost use Rattle.sender.specs.Bounds.{rangeOf, timeoutOf};
-ghost use Rattle.sender.specs.Consistent.{zeroNumber, zeroBlock, numberFits, blockFits, consistentOf};
+ghost use Rattle.sender.specs.Consistent.{zeroNumber, numberFits, blockFits, consistentOf};
 use crate::BlockPlace;
 use crate::NumberPlace;
 use crate::Sender;
 use numbers::ChannelNumber;
 use numbers::DataNumber;
+
+// The longest block that is sent, as a place has its length.
+const LONGEST: u16 = crate::LONGEST as u16;
 
 // Is a range in order, its first within opening's range?
 fn range_fits(first: u64, low: u64, next: u64) -> bool
@@ -39,29 +43,6 @@ fn timeout_fits(timeout: u32) -> bool
     timeout <= 60000
 }
 
-// Is a number's place zero?
-fn zero_number(p: NumberPlace) -> bool
-    ensures { λ r. ⌜ r ≡ zeroNumber p ⌝ }
-{
-    if p.state != crate::UNUSED {
-        return false;
-    }
-    if p.channel.0 != 0 {
-        return false;
-    }
-    p.tick == 0
-}
-
-// Is a block's place zero?
-fn zero_block(b: BlockPlace) -> bool
-    ensures { λ r. ⌜ r ≡ zeroBlock b ⌝ }
-{
-    if b.state != crate::VACANT {
-        return false;
-    }
-    b.length == 0
-}
-
 // Does low pass a number in this state?
 pub(crate) fn passes(state: u8) -> bool
     ensures { λ r. ⌜ r ≡ cond (eqb state 2) true (eqb state 3) ⌝ }
@@ -72,21 +53,16 @@ pub(crate) fn passes(state: u8) -> bool
     state == crate::LOST
 }
 
-// Does the place of number n fit? `fly` is whether the block at its channel number's place is in flight.
-fn number_fits(
+// Does the place of a number below next fit (say of 0, where next is 1)? `fly` is whether the block at its channel number's place is in flight.
+fn used_fits(
     p: NumberPlace,
     fly: bool,
-    n: u64,
-    next: u64,
     firstchannel: u64,
     channellow: u64,
     channelnext: u64,
 ) -> bool
-    ensures { λ r. ⌜ r ≡ numberFits p fly n next firstchannel channellow channelnext ⌝ }
+    ensures { λ r. ⌜ r ≡ numberFits p fly 0 1 firstchannel channellow channelnext ⌝ }
 {
-    if next <= n {
-        return zero_number(p);
-    }
     if p.state == crate::PENDING {
         if p.channel.0 < channellow {
             return false;
@@ -105,43 +81,23 @@ fn number_fits(
     p.channel.0 < channelnext
 }
 
-// Does the place of block c fit? `single` is whether exactly one pending number carries it.
-fn block_fits(b: BlockPlace, single: bool, c: u64, channelnext: u64) -> bool
-    ensures { λ r. ⌜ r ≡ blockFits b single c channelnext ⌝ }
+// Is a number's place not zero, though the number lies from next on? It lies `past` numbers past low, and `count` numbers from low
+// on lie below next.
+fn number_wrong(p: NumberPlace, past: u8, count: u8) -> bool
+    ensures { λ r. ⌜ r ≡ not (implies (leb count past) (zeroNumber p)) ⌝ }
 {
-    if channelnext <= c {
-        return zero_block(b);
-    }
-    if crate::LONGEST < b.length as usize {
-        return false;
-    }
-    if b.state == crate::INFLIGHT {
-        return single;
-    }
-    if b.state == crate::WAITING {
-        return true;
-    }
-    b.state == crate::ACKNOWLEDGED
+    (count <= past) & ((p.state != crate::UNUSED) | (p.channel.0 != 0) | (p.tick != 0))
 }
 
-// Is a number the second pending one for its block?
-fn second(pending: bool, marked: bool) -> bool
-    ensures { λ r. ⌜ r ≡ cond pending marked false ⌝ }
+// Does a block's place not fit? The block lies `past` blocks past channel low, and `count` blocks from there on lie below channel
+// next; `single` is whether exactly one pending number carries it.
+fn block_wrong(b: BlockPlace, single: bool, past: u8, count: u8) -> bool
+    ensures { λ r. ⌜ r ≡ not (blockFits b single past count) ⌝ }
 {
-    if pending {
-        return marked;
-    }
-    false
-}
-
-// Is the place marked, now or before?
-fn kept(pending: bool, marked: bool) -> bool
-    ensures { λ r. ⌜ r ≡ cond pending true marked ⌝ }
-{
-    if pending {
-        return true;
-    }
-    marked
+    let outside = count <= past;
+    let vacant = b.state == crate::VACANT;
+    let unfit = vacant | (crate::ACKNOWLEDGED < b.state) | ((b.state == crate::INFLIGHT) & !single);
+    (outside & (!vacant | (b.length != 0))) | (!outside & ((LONGEST < b.length) | unfit))
 }
 
 // Is the record consistent? A mark for each block that a pending number carries; a second mark for one block refuses.
@@ -165,44 +121,42 @@ pub fn consistent(s: Sender) -> bool
     if block.state == crate::ACKNOWLEDGED {
         return false;
     }
+    let span = s.next.0 - s.low.0;
     let mut marks = [false; 32];
     let mut i: u64 = 0;
-    while i < DataNumber::WINDOW {
+    while i < span {
         let n = s.low.0 + i;
         let p = s.numbers[(n % DataNumber::WINDOW) as usize];
         let at = (p.channel.0 % ChannelNumber::WINDOW) as usize;
         let b = s.blocks[at];
         let fly = b.state == crate::INFLIGHT;
-        if !number_fits(
-            p,
-            fly,
-            n,
-            s.next.0,
-            s.firstchannel.0,
-            s.channellow.0,
-            s.channelnext.0,
-        ) {
+        if !used_fits(p, fly, s.firstchannel.0, s.channellow.0, s.channelnext.0) {
             return false;
         }
-        let pending = p.state == crate::PENDING;
-        let marked = marks[at];
-        if second(pending, marked) {
-            return false;
+        if p.state == crate::PENDING {
+            if marks[at] {
+                return false;
+            }
+            marks[at] = true;
         }
-        let mark = kept(pending, marked);
-        marks[at] = mark;
         i += 1;
     }
-    let mut j: u64 = 0;
-    while j < ChannelNumber::WINDOW {
-        let c = s.channellow.0 + j;
-        let at = (c % ChannelNumber::WINDOW) as usize;
-        let b = s.blocks[at];
-        let single = marks[at];
-        if !block_fits(b, single, c, s.channelnext.0) {
-            return false;
-        }
+    // The places in their own order. No branch leaves these loops, so that many places are looked at together.
+    let count = window::count(s.low.0, s.next.0);
+    let mut wrong = false;
+    let mut j: usize = 0;
+    while j < window::PLACES {
+        let p = s.numbers[j];
+        wrong = wrong | number_wrong(p, window::past(j, s.low.0), count);
         j += 1;
     }
-    true
+    let blockcount = window::count(s.channellow.0, s.channelnext.0);
+    let mut k: usize = 0;
+    while k < window::PLACES {
+        let b = s.blocks[k];
+        let single = marks[k];
+        wrong = wrong | block_wrong(b, single, window::past(k, s.channellow.0), blockcount);
+        k += 1;
+    }
+    !wrong
 }

@@ -40,17 +40,19 @@ pub const WAITING: u8 = 2;
 
 pub const ACKNOWLEDGED: u8 = 3;
 
-// A place for a data number.
+// A place for a data number. The widest field stands first: a place has 16 bytes.
+#[repr(C)]
 pub struct NumberPlace {
-    // Unused, pending, received or lost.
-    pub state: u8,
     // The block that it carries.
     pub channel: ChannelNumber,
     // The tick at which it was sent.
     pub tick: u32,
+    // Unused, pending, received or lost.
+    pub state: u8,
 }
 
 // A place for a block.
+#[repr(C)]
 pub struct BlockPlace {
     // Vacant, in flight, waiting or acknowledged.
     pub state: u8,
@@ -59,6 +61,7 @@ pub struct BlockPlace {
 }
 
 // The sender's record.
+#[repr(C)]
 pub struct Sender {
     // The first data number.
     pub firstdata: DataNumber,
@@ -95,9 +98,9 @@ pub fn opened(firstdata: u16, firstchannel: u16, timeout: u32) -> Sender
         channellow: ChannelNumber(channel),
         channelnext: ChannelNumber(channel),
         numbers: [NumberPlace {
-            state: UNUSED,
             channel: ChannelNumber(0),
             tick: 0,
+            state: UNUSED,
         }; 32],
         blocks: [BlockPlace {
             state: VACANT,

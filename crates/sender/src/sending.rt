@@ -105,9 +105,9 @@ fn sent(s: Sender, tick: u32, c: u64, length: u16, channelnext: u64) -> Sender
     q.next = next;
     q.channelnext = after;
     q.numbers[numberat] = NumberPlace {
-        state: crate::PENDING,
         channel,
         tick,
+        state: crate::PENDING,
     };
     q.blocks[blockat] = BlockPlace {
         state: crate::INFLIGHT,

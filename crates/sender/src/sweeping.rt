@@ -20,14 +20,14 @@ pub struct Losses {
     pub count: u32,
 }
 
-// What the call answers, how many became lost, and the record.
+// What the call answers, how many became lost, and the record; it stands first, which spares copies of it.
 pub struct Swept {
-    // Document 01's number.
-    pub answer: u8,
-    // How many became lost.
-    pub lost: u32,
     // The record after the call.
     pub sender: Sender,
+    // How many became lost.
+    pub lost: u32,
+    // Document 01's number.
+    pub answer: u8,
 }
 
 // Is a number lost if it is pending, with so many higher ones received?
@@ -87,17 +87,17 @@ pub fn sweep(s: Sender, tick: u32) -> Swept
 {
     if !checking::consistent(s) {
         return Swept {
-            answer: 13,
-            lost: 0,
             sender: s,
+            lost: 0,
+            answer: 13,
         };
     }
     let l = judge_all(s, tick);
     let flags = l.flags;
     let q = turning::turn(s, flags, 0, crate::LOST, crate::WAITING);
     Swept {
-        answer: 0,
-        lost: l.count,
         sender: q,
+        lost: l.count,
+        answer: 0,
     }
 }

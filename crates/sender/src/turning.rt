@@ -1,9 +1,9 @@
 // Some pending numbers turn and their blocks with them, and both lows move on: what acknowledging and sweeping have in common.
 ghost use mathlib.Core.Path.{_≡_};
 ghost use mathlib.Core.Bool.{true, false, cond};
-ghost use Prim.Native.Nat.{_≤_};
 ghost use lib.Dec.{eqb, ltb};
 ghost use Rattle.sender.specs.Turn.{turnedOf};
+ghost use Rattle.sender.specs.Turnable.{Turnable};
 ghost use Rattle.sender.specs.Chosen.{chosenBy};
 use crate::BlockPlace;
 use crate::NumberPlace;
@@ -28,13 +28,14 @@ fn turns(state: u8, flag: bool, n: u64, upto: u64) -> bool
 // Pending numbers that are flagged at their place, or lie below upto, get the one state and their blocks the other. Then low moves
 // past received and lost numbers, and channel low past acknowledged blocks.
 pub fn turn(s: Sender, flags: [bool; 32], upto: u64, number: u8, block: u8) -> Sender
-    requires { ⌜ (s .low .0 ≤ 4294967296) × (s .channellow .0 ≤ 4294967296) ⌝ }
+    requires { ⌜ Turnable 32 s ⌝ }
     ensures { λ r. ⌜ r ≡ turnedOf 32 (record { number = number; block = block }) (chosenBy 32 flags upto) s ⌝ }
 {
     let low = s.low.0;
+    let count = s.next.0 - low;
     let mut q = s;
     let mut i: u64 = 0;
-    while i < DataNumber::WINDOW {
+    while i < count {
         let n = low + i;
         let at = (n % DataNumber::WINDOW) as usize;
         let p = q.numbers[at];
@@ -43,9 +44,9 @@ pub fn turn(s: Sender, flags: [bool; 32], upto: u64, number: u8, block: u8) -> S
             let blockat = (channel.0 % ChannelNumber::WINDOW) as usize;
             let b = q.blocks[blockat];
             q.numbers[at] = NumberPlace {
-                state: number,
                 channel,
                 tick: p.tick,
+                state: number,
             };
             q.blocks[blockat] = BlockPlace {
                 state: block,
@@ -63,9 +64,9 @@ pub fn turn(s: Sender, flags: [bool; 32], upto: u64, number: u8, block: u8) -> S
             break;
         }
         q.numbers[at] = NumberPlace {
-            state: crate::UNUSED,
             channel: ChannelNumber(0),
             tick: 0,
+            state: crate::UNUSED,
         };
         let after = DataNumber(n + 1);
         q.low = after;

@@ -164,9 +164,9 @@ fn last(next: u64, channelnext: u64) -> Sender {
         channellow: ChannelNumber(channelnext),
         channelnext: ChannelNumber(channelnext),
         numbers: [NumberPlace {
-            state: 0,
             channel: ChannelNumber(0),
             tick: 0,
+            state: 0,
         }; 32],
         blocks: [BlockPlace {
             state: 0,

@@ -5,3 +5,4 @@ pub mod Free
 pub mod Sliding
 pub mod Alike
 pub mod Members
+pub mod EachPlace

@@ -4,7 +4,7 @@ use mathlib.Core.Bool.{cond}
 use mathlib.Core.List.{List, [], _∷_}
 use mathlib.Core.Logic.{⊎-elim}
 use mathlib.Core.Path.{_≡_, refl, sym, _∙_, ap, subst}
-use native.Mathlib.Nat.{mod-lt, div-add-mod', mul-le-mul-right, suc-mul, mul-add-mod-self-right, mod-eq-of-lt, le-of-suc-le-suc, not-suc-le-zero}
+use native.Mathlib.Nat.{mod-lt, div-add-mod', mul-le-mul-right, suc-mul, mul-add-mod-self-right, mod-eq-of-lt, add-mod-right, le-of-suc-le-suc, not-suc-le-zero}
 use native.Mathlib.Omega.{arith}
 use lib.Dec.{ltb}
 use lib.ListN.{length, getD, replicate}
@@ -42,6 +42,24 @@ number-at w b i h =
     (λ lt. rw (lt-ltb i (b % w) lt) (omega arith, omega arith, mul-add-mod-self-right (suc (b / w)) w i ∙ mod-eq-of-lt h))
     (λ ge. rw (le-ltb i (b % w) ge) (omega arith, omega arith, mul-add-mod-self-right (b / w) w i ∙ mod-eq-of-lt h))
     (lt-or-ge i (b % w))
+
+-- how far past b that number lies
+abbrev pub pastOf : ℕ → ℕ → ℕ → ℕ
+pastOf w b i = (i + (w - b % w)) % w
+
+pub past-is : (w b i : ℕ) → i < w → pastOf w b ((b + i) % w) ≡ i
+past-is w b i l =
+    let d = div-add-mod' b w in
+    let m : b % w < w = mod-lt b (omega arith) in
+    let split : b + i ≡ b / w * w + (b % w + i) = omega arith in
+    let at : (b + i) % w ≡ (b % w + i) % w = ap (λ (n : ℕ). n % w) split ∙ mul-add-mod-self-right (b / w) w (b % w + i) in
+    ⊎-elim
+    (λ lt. let here : (b + i) % w ≡ b % w + i = at ∙ mod-eq-of-lt lt in
+    ap (λ (n : ℕ). n % w) (let s : (b + i) % w + (w - b % w) ≡ i + w = omega arith in s) ∙ add-mod-right i w ∙ mod-eq-of-lt l)
+    (λ ge. let back : b % w + i ≡ (b % w + i - w) + w = omega arith in
+    let here : (b + i) % w ≡ b % w + i - w = at ∙ ap (λ (n : ℕ). n % w) back ∙ add-mod-right (b % w + i - w) w ∙ mod-eq-of-lt (omega arith) in
+    ap (λ (n : ℕ). n % w) (let s : (b + i) % w + (w - b % w) ≡ i = omega arith in s) ∙ mod-eq-of-lt l)
+    (lt-or-ge (b % w + i) w)
 
 -- the list of f 0 to f (n − 1)
 unfoldable pub tabulate : {A : Type 0} → ℕ → (ℕ → A) → List A

@@ -1,7 +1,9 @@
 -- `endpoint::receive` meets its contract: each way out is an instance of a law.
 use mathlib.Core.Path.{sym, _∙_}
+use native.Mathlib.Omega.{arith}
 use borrow.Author.Tests.{not-true, not-false}
-use Rattle.endpoint.proofs.Receiving.{lows-fit, wrong-size, sender-unfit, receiver-unfit, read-refused, read-dummy, told-refused, number-refused, accepted-silent, accepted-told}
+use Rattle.sender.specs.Turnable.{turnable}
+use Rattle.endpoint.proofs.Receiving.{wrong-size, sender-unfit, receiver-unfit, read-refused, read-dummy, told-refused, number-refused, accepted-silent, accepted-told}
 use borrow.Author.Needs.{needs}
 use Rattle.endpoint.proofs.receive.Statement.{statement}
 use Rattle.endpoint.proofs.receive.Tie as tie
@@ -61,7 +63,7 @@ returns-6 : tie.Need-returns-6
 returns-6 c = accepted-silent _ _ _ _ (sym (c .before .before .before .before .before .before .before .before .before .before .before .before .before .before .before .before .before .before .before .before .consistent .ensures) ∙ not-false _ (c .before .before .before .before .before .before .before .before .before .before .before .before .before .before .before .before .before .before .before .if2 .left)) (sym (c .before .before .before .before .before .before .before .before .before .before .before .before .before .before .before .before .before .before .consistent2 .ensures) ∙ not-false _ (c .before .before .before .before .before .before .before .before .before .before .before .before .before .before .before .before .before .if3 .left)) (c .before .before .before .before .before .before .before .before .before .before .before .before .before .before .before .before .before .before .before .before .before .if1 .left) _ (c .before .before .before .before .before .before .before .before .before .before .before .before .before .before .before .before .read .ensures) _ (c .before .before .before .before .before .before .before .before .before .before .before .before .before .before .p .given .1) _ (c .before .before .before .before .before .before .before .before .before .before .before .judge .ensures .0) (c .before .before .before .before .before .before .before .before .before .if4 .left) _ (c .before .before .before .before .before .before .before .before .judge2 .ensures) _ (c .before .before .before .before .before .before .before .number .ensures) _ _ _ (c .before .before .before .before .before .before .if5 .left) (c .before .tells .ensures) (not-true _ (c .if6 .taken)) (c .before .before .before .before .apply .ensures .0) (c .before .before .before .before .apply .ensures .1)
 
 turn-requires : tie.Need-turn-requires
-turn-requires c κs = lows-fit _ (sym (c .before .before .before .before .before .before .before .before .before .before .before .before .before .before .before .before .before .before .before .before .before .consistent .ensures) ∙ not-false _ (c .before .before .before .before .before .before .before .before .before .before .before .before .before .before .before .before .before .before .before .before .if2 .left))
+turn-requires c κs = turnable 32 32 _ (omega arith) (omega arith) (sym (c .before .before .before .before .before .before .before .before .before .before .before .before .before .before .before .before .before .before .before .before .before .consistent .ensures) ∙ not-false _ (c .before .before .before .before .before .before .before .before .before .before .before .before .before .before .before .before .before .before .before .before .if2 .left))
 
 returns-7 : tie.Need-returns-7
 returns-7 c = read-refused _ _ _ _ (sym (c .before .before .before .before .before .before .before .consistent .ensures) ∙ not-false _ (c .before .before .before .before .before .before .if2 .left)) (sym (c .before .before .before .before .before .consistent2 .ensures) ∙ not-false _ (c .before .before .before .before .if3 .left)) (c .before .before .before .before .before .before .before .before .if1 .left) _ (c .before .before .before .read .ensures) _ (c .before .n .given .1)

@@ -1,28 +1,25 @@
--- `receiver::checking::consistent` meets its contract: each way out is an instance of a law of Consistency, and the loops have found every place before them right.
-use native.Mathlib.Omega.{arith}
+-- `receiver::checking::consistent` meets its contract: each way out is an instance of a law of Consistency, and the loops' flag is raised where a place before them is wrong.
 use Prim.Native.Nat.{_-_, _≤_}
 use mathlib.Core.Path.{_≡_}
-use mathlib.Core.Bool.{true}
-use borrow.Author.Tests.{not-true, not-false}
-use Rattle.common.specs.Every.{allBelow}
-use Rattle.receiver.specs.Consistent.{markOk, holdOk}
-use Rattle.common.specs.EveryLaws.{all-none, all-more, all-done}
-use Rattle.receiver.proofs.Consistency.{mark-here, hold-here, bounds-told, bounds-fail, base-fails, end-fails, mark-fails, hold-fails, end-decides, end-low, unmapped}
+use native.Mathlib.Omega.{arith}
 use borrow.Author.Needs.{needs}
+use borrow.Author.Tests.{not-true, not-false}
+use Rattle.common.specs.EveryLaws.{raised, raised-none, raised-more, raised-twice}
+use Rattle.receiver.proofs.Consistency.{markPlaced, keptPlaced, bounds-told, bounds-fail, base-fails, end-fails, places-fail, beyond-fails, end-decides, end-low, unmapped}
 use Rattle.receiver.proofs.checking.consistent.Statement.{statement}
 use Rattle.receiver.proofs.checking.consistent.Tie as tie
 
 abbrev Inv-loop : tie.InvT-loop
-Inv-loop r base end due at i₀ i = (i ≤ 32) × (allBelow (markOk 32 r) i ≡ true)
+Inv-loop r base end due at span wrong₀ i₀ wrong i = (i ≤ 32) × (wrong ≡ raised wrong₀ (markPlaced 32 r) i)
 
 abbrev μ-loop : tie.MeasureT-loop
-μ-loop r base end due at i₀ i = 32 - i
+μ-loop r base end due at span wrong₀ i₀ wrong i = 32 - i
 
 abbrev Inv-loop2 : tie.InvT-loop2
-Inv-loop2 r base end due at i k₀ k = (k ≤ 32) × (allBelow (holdOk 32 r) k ≡ true)
+Inv-loop2 r base end due at span wrong₀ i k₀ wrong k = (k ≤ 32) × (wrong ≡ raised wrong₀ (keptPlaced r) k)
 
 abbrev μ-loop2 : tie.MeasureT-loop2
-μ-loop2 r base end due at i k₀ k = 32 - k
+μ-loop2 r base end due at span wrong₀ i k₀ wrong k = 32 - k
 
 bounds-ok-requires : tie.Need-bounds-ok-requires Inv-loop μ-loop Inv-loop2 μ-loop2
 bounds-ok-requires c κs = search needs
@@ -40,50 +37,25 @@ returns-2 : tie.Need-returns-2 Inv-loop μ-loop Inv-loop2 μ-loop2
 returns-2 c = base-fails (c .before .before .before .before .before .args .t1) _ (c .before .before .data-place .ensures .0) (c .if2 .taken)
 
 add-if3 : tie.Need-add-if3 Inv-loop μ-loop Inv-loop2 μ-loop2
-add-if3 c =
-    omega (
-      arith,
-      bounds-told (c .before .before .before .before .before .args .t1) _ (c .before .before .before .before .bounds-ok .ensures)
-          (not-false _ (c .before .before .before .if1 .left)) .baseFits,
-    )
+add-if3 c = omega (arith, bounds-told (c .before .before .before .before .before .args .t1) _ (c .before .before .before .before .bounds-ok .ensures) (not-false _ (c .before .before .before .if1 .left)) .baseFits)
 
 returns-3 : tie.Need-returns-3 Inv-loop μ-loop Inv-loop2 μ-loop2
 returns-3 c = end-fails (c .before .before .before .before .before .before .args .t1) (c .if3 .taken)
 
+count-requires : tie.Need-count-requires Inv-loop μ-loop Inv-loop2 μ-loop2
+count-requires c κs = search needs
+
 loop-holds : tie.Need-loop-holds Inv-loop μ-loop Inv-loop2 μ-loop2
-loop-holds c = (search needs, all-none _)
-
-add-data-place : tie.Need-add-data-place Inv-loop μ-loop Inv-loop2 μ-loop2
-add-data-place c =
-    omega (
-      arith,
-      bounds-told (c .before .before .before .before .before .before .before .before .args .t1) _
-          (c .before .before .before .before .before .before .before .bounds-ok .ensures) (not-false _ (c .before .before .before .before .before .before .if1 .left)) .baseFits,
-    )
-
-data-place-requires-2 : tie.Need-data-place-requires-2 Inv-loop μ-loop Inv-loop2 μ-loop2
-data-place-requires-2 c κs = search needs
+loop-holds c = (search needs, raised-none _ _)
 
 element-copy-out-m : tie.Need-element-copy-out-m Inv-loop μ-loop Inv-loop2 μ-loop2
 element-copy-out-m c = search needs
 
-add-mark-ok : tie.Need-add-mark-ok Inv-loop μ-loop Inv-loop2 μ-loop2
-add-mark-ok c =
-    omega (
-      arith,
-      bounds-told (c .before .before .before .before .before .before .before .before .before .before .args .t1) _
-          (c .before .before .before .before .before .before .before .before .before .bounds-ok .ensures)
-          (not-false _ (c .before .before .before .before .before .before .before .before .if1 .left)) .baseFits,
-    )
+past-requires : tie.Need-past-requires Inv-loop μ-loop Inv-loop2 μ-loop2
+past-requires c κs = search needs
 
-mark-ok-requires : tie.Need-mark-ok-requires Inv-loop μ-loop Inv-loop2 μ-loop2
-mark-ok-requires c κs = search needs
-
-returns-4 : tie.Need-returns-4 Inv-loop μ-loop Inv-loop2 μ-loop2
-returns-4 c =
-    mark-fails (c .before .before .before .before .before .before .before .before .before .before .before .before .args .t1) _
-    (c .before .before .before .before .loop-test .taken)
-    (mark-here _ _ _ _ _ _ (c .before .before .before .data-place2 .ensures .0) (c .before .mark-ok .ensures) (not-true _ (c .if4 .taken)))
+mark-wrong-requires : tie.Need-mark-wrong-requires Inv-loop μ-loop Inv-loop2 μ-loop2
+mark-wrong-requires c κs = search needs
 
 add-i : tie.Need-add-i Inv-loop μ-loop Inv-loop2 μ-loop2
 add-i c = search needs
@@ -92,26 +64,10 @@ loop-less : tie.Need-loop-less Inv-loop μ-loop Inv-loop2 μ-loop2
 loop-less c = search needs
 
 loop-again : tie.Need-loop-again Inv-loop μ-loop Inv-loop2 μ-loop2
-loop-again c = (
-  search needs,
-  all-more _ _ (c .before .before .before .before .before .loop .inv .1)
-      (mark-here _ _ _ _ _ _ (c .before .before .before .data-place2 .ensures .0) (c .before .mark-ok .ensures) (not-false _ (c .if4 .left))),
-)
+loop-again c = (search needs, raised-more _ (markPlaced 32 (c .before .before .before .before .before .before .before .before .before .before .before .before .args .t1)) _ _ _ (c .before .before .before .before .loop .inv .1) (rw (c .before .past .ensures, c .before .before .before .before .before .count .ensures) at (c .mark-wrong .ensures)))
 
 loop2-holds : tie.Need-loop2-holds Inv-loop μ-loop Inv-loop2 μ-loop2
-loop2-holds c = (search needs, all-none _)
-
-add-channel-place : tie.Need-add-channel-place Inv-loop μ-loop Inv-loop2 μ-loop2
-add-channel-place c =
-    omega (
-      arith,
-      bounds-told (c .before .before .before .before .before .before .before .before .before .before .args .t1) _
-          (c .before .before .before .before .before .before .before .before .before .bounds-ok .ensures)
-          (not-false _ (c .before .before .before .before .before .before .before .before .if1 .left)) .dueFits,
-    )
-
-channel-place-requires : tie.Need-channel-place-requires Inv-loop μ-loop Inv-loop2 μ-loop2
-channel-place-requires c κs = search needs
+loop2-holds c = (search needs, raised-none _ _)
 
 mul-h : tie.Need-mul-h Inv-loop μ-loop Inv-loop2 μ-loop2
 mul-h c = search needs
@@ -119,23 +75,8 @@ mul-h c = search needs
 element-copy-out-h : tie.Need-element-copy-out-h Inv-loop μ-loop Inv-loop2 μ-loop2
 element-copy-out-h c = search needs
 
-add-hold-ok : tie.Need-add-hold-ok Inv-loop μ-loop Inv-loop2 μ-loop2
-add-hold-ok c =
-    omega (
-      arith,
-      bounds-told (c .before .before .before .before .before .before .before .before .before .before .before .before .args .t1) _
-          (c .before .before .before .before .before .before .before .before .before .before .before .bounds-ok .ensures)
-          (not-false _ (c .before .before .before .before .before .before .before .before .before .before .if1 .left)) .dueFits,
-    )
-
-hold-ok-requires : tie.Need-hold-ok-requires Inv-loop μ-loop Inv-loop2 μ-loop2
-hold-ok-requires c κs = search needs
-
-returns-5 : tie.Need-returns-5 Inv-loop μ-loop Inv-loop2 μ-loop2
-returns-5 c =
-    hold-fails (c .before .before .before .before .before .before .before .before .before .before .before .before .before .before .args .t1) _
-    (c .before .before .before .before .loop2-test .taken)
-    (hold-here _ _ _ _ _ _ (c .before .before .before .channel-place .ensures .0) (c .before .hold-ok .ensures) (not-true _ (c .if5 .taken)))
+hold-wrong-requires : tie.Need-hold-wrong-requires Inv-loop μ-loop Inv-loop2 μ-loop2
+hold-wrong-requires c κs = search needs
 
 add-k : tie.Need-add-k Inv-loop μ-loop Inv-loop2 μ-loop2
 add-k c = search needs
@@ -144,39 +85,34 @@ loop2-less : tie.Need-loop2-less Inv-loop μ-loop Inv-loop2 μ-loop2
 loop2-less c = search needs
 
 loop2-again : tie.Need-loop2-again Inv-loop μ-loop Inv-loop2 μ-loop2
-loop2-again c = (
-  search needs,
-  all-more _ _ (c .before .before .before .before .before .loop2 .inv .1)
-      (hold-here _ _ _ _ _ _ (c .before .before .before .channel-place .ensures .0) (c .before .hold-ok .ensures) (not-false _ (c .if5 .left))),
-)
+loop2-again c = (search needs, raised-more _ (keptPlaced (c .before .before .before .before .before .before .before .before .before .before .before .before .before .args .t1)) _ _ _ (c .before .before .before .loop2 .inv .1) (c .hold-wrong .ensures))
+
+returns-4 : tie.Need-returns-4 Inv-loop μ-loop Inv-loop2 μ-loop2
+returns-4 c = places-fail (c .before .before .before .before .before .before .before .before .before .before .before .before .args .t1) _ (raised-twice _ _ 32 32 _ _ _ _ (omega arith) (omega arith) (c .before .before .before .before .loop .inv .1) (c .before .before .loop2 .inv .1)) (c .if4 .taken)
+
+count-requires-2 : tie.Need-count-requires-2 Inv-loop μ-loop Inv-loop2 μ-loop2
+count-requires-2 c κs = search needs
+
+beyond-requires : tie.Need-beyond-requires Inv-loop μ-loop Inv-loop2 μ-loop2
+beyond-requires c κs = search needs
+
+returns-5 : tie.Need-returns-5 Inv-loop μ-loop Inv-loop2 μ-loop2
+returns-5 c = beyond-fails (c .before .before .before .before .before .before .before .before .before .before .before .before .before .before .before .before .args .t1) _ (rw (c .before .before .count2 .ensures) at (c .before .beyond .ensures)) (c .if5 .taken)
 
 sub-data-place : tie.Need-sub-data-place Inv-loop μ-loop Inv-loop2 μ-loop2
 sub-data-place c = search needs
 
-data-place-requires-3 : tie.Need-data-place-requires-3 Inv-loop μ-loop Inv-loop2 μ-loop2
-data-place-requires-3 c κs = search needs
+data-place-requires-2 : tie.Need-data-place-requires-2 Inv-loop μ-loop Inv-loop2 μ-loop2
+data-place-requires-2 c κs = search needs
 
 element-copy-out-result : tie.Need-element-copy-out-result Inv-loop μ-loop Inv-loop2 μ-loop2
 element-copy-out-result c = search needs
 
 returns-6 : tie.Need-returns-6 Inv-loop μ-loop Inv-loop2 μ-loop2
-returns-6 c =
-    end-decides (c .before .before .before .before .before .before .before .before .before .before .before .before .before .args .t1) (search (needs, unmapped))
-    (search (needs, unmapped)) _ (c .before .before .before .before .before .before .before .before .before .before .before .before .bounds-ok .ensures)
-    (not-false _ (c .before .before .before .before .before .before .before .before .before .before .before .if1 .left)) _
-    (c .before .before .before .before .before .before .before .before .before .before .data-place .ensures .0)
-    (c .before .before .before .before .before .before .before .before .if2 .left) (c .before .before .before .before .before .before .before .if3 .left)
-    (all-done _ 32 _ (omega arith) (c .before .before .before .before .before .before .loop .inv .1))
-    (all-done _ 32 _ (omega arith) (c .before .before .before .before .loop2 .inv .1)) _ (c .before .before .if6 .taken) (c .before .data-place3 .ensures .0)
+returns-6 c = end-decides (c .before .before .before .before .before .before .before .before .before .before .before .before .before .before .before .before .before .before .before .args .t1) (search (needs, unmapped)) (search (needs, unmapped)) _ (c .before .before .before .before .before .before .before .before .before .before .before .before .before .before .before .before .before .before .bounds-ok .ensures) (not-false _ (c .before .before .before .before .before .before .before .before .before .before .before .before .before .before .before .before .before .if1 .left)) _ (c .before .before .before .before .before .before .before .before .before .before .before .before .before .before .before .before .data-place .ensures .0) (c .before .before .before .before .before .before .before .before .before .before .before .before .before .before .if2 .left) (c .before .before .before .before .before .before .before .before .before .before .before .before .before .if3 .left) _ (raised-twice _ _ 32 32 _ _ _ _ (omega arith) (omega arith) (c .before .before .before .before .before .before .before .before .before .before .before .loop .inv .1) (c .before .before .before .before .before .before .before .before .before .loop2 .inv .1)) (c .before .before .before .before .before .before .before .if4 .left) _ (rw (c .before .before .before .before .before .count2 .ensures) at (c .before .before .before .before .beyond .ensures)) (c .before .before .before .if5 .left) _ (c .before .before .if6 .taken) (c .before .data-place2 .ensures .0)
 
 returns-7 : tie.Need-returns-7 Inv-loop μ-loop Inv-loop2 μ-loop2
-returns-7 c =
-    end-low (c .before .before .before .before .before .before .before .before .before .before .before .args .t1) (search (needs, unmapped)) (search (needs, unmapped)) _
-    (c .before .before .before .before .before .before .before .before .before .before .bounds-ok .ensures)
-    (not-false _ (c .before .before .before .before .before .before .before .before .before .if1 .left)) _
-    (c .before .before .before .before .before .before .before .before .data-place .ensures .0) (c .before .before .before .before .before .before .if2 .left)
-    (c .before .before .before .before .before .if3 .left) (all-done _ 32 _ (omega arith) (c .before .before .before .before .loop .inv .1))
-    (all-done _ 32 _ (omega arith) (c .before .before .loop2 .inv .1)) (c .if6 .left)
+returns-7 c = end-low (c .before .before .before .before .before .before .before .before .before .before .before .before .before .before .before .before .before .args .t1) (search (needs, unmapped)) (search (needs, unmapped)) _ (c .before .before .before .before .before .before .before .before .before .before .before .before .before .before .before .before .bounds-ok .ensures) (not-false _ (c .before .before .before .before .before .before .before .before .before .before .before .before .before .before .before .if1 .left)) _ (c .before .before .before .before .before .before .before .before .before .before .before .before .before .before .data-place .ensures .0) (c .before .before .before .before .before .before .before .before .before .before .before .before .if2 .left) (c .before .before .before .before .before .before .before .before .before .before .before .if3 .left) _ (raised-twice _ _ 32 32 _ _ _ _ (omega arith) (omega arith) (c .before .before .before .before .before .before .before .before .before .loop .inv .1) (c .before .before .before .before .before .before .before .loop2 .inv .1)) (c .before .before .before .before .before .if4 .left) _ (rw (c .before .before .before .count2 .ensures) at (c .before .before .beyond .ensures)) (c .before .if5 .left) (c .if6 .left)
 
 pub consistent-spec : {M : Type 1} → statement M
 consistent-spec =
@@ -193,29 +129,27 @@ consistent-spec =
     returns-2
     add-if3
     returns-3
+    count-requires
     loop-holds
-    add-data-place
-    data-place-requires-2
     element-copy-out-m
-    add-mark-ok
-    mark-ok-requires
-    returns-4
+    past-requires
+    mark-wrong-requires
     add-i
     loop-less
     loop-again
     loop2-holds
-    add-channel-place
-    channel-place-requires
     mul-h
     element-copy-out-h
-    add-hold-ok
-    hold-ok-requires
-    returns-5
+    hold-wrong-requires
     add-k
     loop2-less
     loop2-again
+    returns-4
+    count-requires-2
+    beyond-requires
+    returns-5
     sub-data-place
-    data-place-requires-3
+    data-place-requires-2
     element-copy-out-result
     returns-6
     returns-7)

@@ -1,9 +1,11 @@
 -- Each way out of the call is a law of Acked: not consistent, not read, a dummy, judged and refused, judged and turned.
 use mathlib.Core.Path.{_≡_, sym, _∙_}
 use mathlib.Core.Bool.{true}
+use native.Mathlib.Omega.{arith}
 use borrow.Author.Tests.{not-true, not-false}
 use Rattle.sender.specs.Consistent.{consistentOf}
-use Rattle.sender.proofs.Acked.{lows-fit, ack-unfit, ack-refused, ack-dummy, ack-kept, ack-turned}
+use Rattle.sender.specs.Turnable.{turnable}
+use Rattle.sender.proofs.Acked.{ack-unfit, ack-refused, ack-dummy, ack-kept, ack-turned}
 use borrow.Author.Needs.{needs}
 use Rattle.sender.proofs.acknowledging.acknowledge.Statement.{statement}
 use Rattle.sender.proofs.acknowledging.acknowledge.Tie as tie
@@ -40,7 +42,7 @@ returns-2 c =
     (c .before .before .judge .ensures .0) (c .before .before .judge .ensures .1) (c .if2 .taken)
 
 turn-requires : tie.Need-turn-requires
-turn-requires c κs = let f = lows-fit _ (fit (c .before .before .before .before .before .before .before .before)) in (f .0, f .1)
+turn-requires c κs = turnable 32 32 _ (omega arith) (omega arith) (fit (c .before .before .before .before .before .before .before .before))
 
 returns-3 : tie.Need-returns-3
 returns-3 c = ack-refused _ _ _ (fit (c .before .before .before .before)) (sym (c .before .n .given .1) ∙ c .before .before .before .read .ensures)

@@ -1,6 +1,7 @@
 -- `sender::acknowledging::judge` meets its contract: each way out is an instance of a law.
+use native.Mathlib.Omega.{arith}
 use borrow.Author.Needs.{needs}
-use Rattle.sender.proofs.Acked.{lows-fit}
+use Rattle.sender.specs.Turnable.{turnable}
 use Rattle.sender.proofs.Told.{told-ack, told-vector, told-silent, vector-inside}
 use Rattle.sender.proofs.acknowledging.judge.Statement.{statement}
 use Rattle.sender.proofs.acknowledging.judge.Tie as tie
@@ -9,7 +10,7 @@ flag-requires : tie.Need-flag-requires
 flag-requires c κs = search needs
 
 judge-up-to-requires : tie.Need-judge-up-to-requires
-judge-up-to-requires c κs = lows-fit _ (c .before .before .before .before .before .before .pre .0) .2
+judge-up-to-requires c κs = turnable 32 32 _ (omega arith) (omega arith) (c .before .before .before .before .before .before .pre .0) .next
 
 returns : tie.Need-returns
 returns c = let r = told-ack (c .before .before .before .before .before .before .before .args .s) _ _ _ _ (c .before .before .before .flag .ensures) (c .before .before .if1 .taken) (c .judge-up-to .ensures) in (r .answer, r .applied)
@@ -21,7 +22,7 @@ cast-judge-listed : tie.Need-cast-judge-listed
 cast-judge-listed c = search needs
 
 judge-listed-requires : tie.Need-judge-listed-requires
-judge-listed-requires c κs = let v = vector-inside _ _ _ (c .before .before .before .before .before .before .before .before .before .pre .1) (c .before .before .before .flag2 .ensures) (c .before .before .if2 .taken) in (v .long, v .inside, v .short, lows-fit _ (c .before .before .before .before .before .before .before .before .before .pre .0) .2)
+judge-listed-requires c κs = let v = vector-inside _ _ _ (c .before .before .before .before .before .before .before .before .before .pre .1) (c .before .before .before .flag2 .ensures) (c .before .before .if2 .taken) in (v .long, v .inside, v .short, turnable 32 32 _ (omega arith) (omega arith) (c .before .before .before .before .before .before .before .before .before .pre .0) .next)
 
 returns-2 : tie.Need-returns-2
 returns-2 c = let r = told-vector (c .before .before .before .before .before .before .before .before .before .before .args .s) _ _ _ _ _ (c .before .before .before .before .before .before .before .before .before .before .pre .0) (c .before .before .before .before .before .before .flag .ensures) (c .before .before .before .before .before .if1 .left) (c .before .before .before .before .flag2 .ensures) (c .before .before .before .if2 .taken) (c .judge-listed .ensures) in (r .answer, r .applied)

@@ -1,18 +1,20 @@
 -- `sender::checking::consistent` meets its contract: each way out is an instance of a law.
-use Prim.Native.Nat.{ℕ, _-_, _≤_}
-use mathlib.Core.Bool.{true}
+use Prim.Native.Nat.{ℕ, _+_, _-_, _≤_}
+use mathlib.Core.Bool.{Bool, true}
 use mathlib.Core.List.{List, map}
+use mathlib.Core.Logic.{⊎-elim}
 use mathlib.Core.Path.{_≡_, sym, _∙_, subst}
 use native.Mathlib.Omega.{arith}
 use lib.ListN.{length, length-map}
 use borrow.Author.Needs.{needs}
 use borrow.Author.Tests.{not-true, not-false, eq-eqb, ne-eqb}
 use Rattle.common.specs.Every.{allBelow}
-use Rattle.sender.specs.Consistent.{numberOk, blockOk}
-use Rattle.common.specs.EveryLaws.{all-none, all-more}
-use Rattle.sender.proofs.Passing.{range-facts, passes-consistent}
-use Rattle.sender.proofs.Marks.{Marked, mark-none, mark-next, mark-twice, number-judged, block-judged}
-use Rattle.sender.proofs.Judged.{bad-range, bad-channels, bad-time, bad-low, bad-block-low, bad-number, bad-blocks, bad-block}
+use Rattle.common.specs.EveryLaws.{all-none, all-more, raised, raised-none, raised-more, raised-twice}
+use Rattle.sender.specs.Consistent.{numberOk}
+use Rattle.sender.proofs.Passing.{range-facts, Begun, data-range, block-range}
+use Rattle.sender.proofs.Marks.{Marked, mark-none, mark-pending, mark-other, mark-twice, number-judged}
+use Rattle.sender.proofs.Placed.{numberPlaced, blockPlaced, judged}
+use Rattle.sender.proofs.Judged.{bad-range, bad-channels, bad-time, bad-low, bad-block-low, bad-number, bad-blocks}
 use Rattle.sender.proofs.checking.consistent.Statement.{statement}
 use Rattle.sender.proofs.checking.consistent.Tie as tie
 
@@ -20,150 +22,206 @@ unmapped : (X Y : Type 0) (f : X → Y) (l : List X) (n : ℕ) → length (map f
 unmapped X Y f l n p = sym (length-map l f) ∙ p
 
 abbrev Inv-loop : tie.InvT-loop
-Inv-loop s marks₀ i₀ marks i = (i ≤ 32) × (allBelow (numberOk 32 s) i ≡ true) × Marked s marks i
+Inv-loop s span marks₀ i₀ marks i = (i ≤ span) × Begun s × (allBelow (numberOk 32 s) i ≡ true) × Marked s marks i
 
 abbrev μ-loop : tie.MeasureT-loop
-μ-loop s marks₀ i₀ marks i = 32 - i
+μ-loop s span marks₀ i₀ marks i = span - i
 
 abbrev Inv-loop2 : tie.InvT-loop2
-Inv-loop2 s marks i j₀ j = (j ≤ 32) × (allBelow (blockOk 32 s) j ≡ true)
+Inv-loop2 s span marks i count wrong₀ j₀ wrong j = (j ≤ 32) × (wrong ≡ raised wrong₀ (numberPlaced 32 s) j)
 
 abbrev μ-loop2 : tie.MeasureT-loop2
-μ-loop2 s marks i j₀ j = 32 - j
+μ-loop2 s span marks i count wrong₀ j₀ wrong j = 32 - j
 
-range-fits-requires : tie.Need-range-fits-requires Inv-loop μ-loop Inv-loop2 μ-loop2
+abbrev Inv-loop3 : tie.InvT-loop3
+Inv-loop3 s span marks i count wrong₀ j blockcount k₀ wrong k = (k ≤ 32) × (wrong ≡ raised wrong₀ (blockPlaced 32 s marks) k)
+
+abbrev μ-loop3 : tie.MeasureT-loop3
+μ-loop3 s span marks i count wrong₀ j blockcount k₀ wrong k = 32 - k
+
+range-fits-requires :
+    tie.Need-range-fits-requires Inv-loop μ-loop Inv-loop2 μ-loop2 Inv-loop3 μ-loop3
 range-fits-requires c κs = search needs
 
-returns : tie.Need-returns Inv-loop μ-loop Inv-loop2 μ-loop2
+returns : tie.Need-returns Inv-loop μ-loop Inv-loop2 μ-loop2 Inv-loop3 μ-loop3
 returns c = bad-range _ _ (c .before .range-fits .ensures) (not-true _ (c .if1 .taken))
 
-range-fits-requires-2 : tie.Need-range-fits-requires-2 Inv-loop μ-loop Inv-loop2 μ-loop2
+range-fits-requires-2 :
+    tie.Need-range-fits-requires-2 Inv-loop μ-loop Inv-loop2 μ-loop2 Inv-loop3 μ-loop3
 range-fits-requires-2 c κs = search needs
 
-returns-2 : tie.Need-returns-2 Inv-loop μ-loop Inv-loop2 μ-loop2
+returns-2 : tie.Need-returns-2 Inv-loop μ-loop Inv-loop2 μ-loop2 Inv-loop3 μ-loop3
 returns-2 c = bad-channels _ _ (c .before .range-fits2 .ensures) (not-true _ (c .if2 .taken))
 
-timeout-fits-requires : tie.Need-timeout-fits-requires Inv-loop μ-loop Inv-loop2 μ-loop2
+timeout-fits-requires :
+    tie.Need-timeout-fits-requires Inv-loop μ-loop Inv-loop2 μ-loop2 Inv-loop3 μ-loop3
 timeout-fits-requires c κs = search needs
 
-returns-3 : tie.Need-returns-3 Inv-loop μ-loop Inv-loop2 μ-loop2
+returns-3 : tie.Need-returns-3 Inv-loop μ-loop Inv-loop2 μ-loop2 Inv-loop3 μ-loop3
 returns-3 c = bad-time _ _ (c .before .timeout-fits .ensures) (not-true _ (c .if3 .taken))
 
-mul-number : tie.Need-mul-number Inv-loop μ-loop Inv-loop2 μ-loop2
+mul-number : tie.Need-mul-number Inv-loop μ-loop Inv-loop2 μ-loop2 Inv-loop3 μ-loop3
 mul-number c = search needs
 
-element-copy-out-number : tie.Need-element-copy-out-number Inv-loop μ-loop Inv-loop2 μ-loop2
+element-copy-out-number :
+    tie.Need-element-copy-out-number Inv-loop μ-loop Inv-loop2 μ-loop2 Inv-loop3 μ-loop3
 element-copy-out-number c = search needs
 
-passes-requires : tie.Need-passes-requires Inv-loop μ-loop Inv-loop2 μ-loop2
+passes-requires : tie.Need-passes-requires Inv-loop μ-loop Inv-loop2 μ-loop2 Inv-loop3 μ-loop3
 passes-requires c κs = search needs
 
-returns-4 : tie.Need-returns-4 Inv-loop μ-loop Inv-loop2 μ-loop2
+returns-4 : tie.Need-returns-4 Inv-loop μ-loop Inv-loop2 μ-loop2 Inv-loop3 μ-loop3
 returns-4 c = bad-low _ _ (c .before .passes .ensures) (c .if4 .taken)
 
-mul-block : tie.Need-mul-block Inv-loop μ-loop Inv-loop2 μ-loop2
+mul-block : tie.Need-mul-block Inv-loop μ-loop Inv-loop2 μ-loop2 Inv-loop3 μ-loop3
 mul-block c = search needs
 
-element-copy-out-block : tie.Need-element-copy-out-block Inv-loop μ-loop Inv-loop2 μ-loop2
+element-copy-out-block :
+    tie.Need-element-copy-out-block Inv-loop μ-loop Inv-loop2 μ-loop2 Inv-loop3 μ-loop3
 element-copy-out-block c = search needs
 
-returns-5 : tie.Need-returns-5 Inv-loop μ-loop Inv-loop2 μ-loop2
+returns-5 : tie.Need-returns-5 Inv-loop μ-loop Inv-loop2 μ-loop2 Inv-loop3 μ-loop3
 returns-5 c = bad-block-low _ (eq-eqb _ _ (c .if5 .taken))
 
-loop-holds : tie.Need-loop-holds Inv-loop μ-loop Inv-loop2 μ-loop2
-loop-holds c = (search needs, all-none _, mark-none _)
+sub-span : tie.Need-sub-span Inv-loop μ-loop Inv-loop2 μ-loop2 Inv-loop3 μ-loop3
+sub-span c = range-facts _ _ _ (sym (c .before .before .before .before .before .before .before .before .before .before .before .range-fits .ensures) ∙ not-false _ (c .before .before .before .before .before .before .before .before .before .before .if1 .left)) .forth
 
-add-n : tie.Need-add-n Inv-loop μ-loop Inv-loop2 μ-loop2
-add-n c = let r = range-facts (c .before .before .before .before .before .before .before .before .before .before .before .before .before .before .args .t1 .firstdata .0) (c .before .before .before .before .before .before .before .before .before .before .before .before .before .before .args .t1 .low .0) (c .before .before .before .before .before .before .before .before .before .before .before .before .before .before .args .t1 .next .0) (sym (c .before .before .before .before .before .before .before .before .before .before .before .before .before .range-fits .ensures) ∙ not-false _ (c .before .before .before .before .before .before .before .before .before .before .before .before .if1 .left)) in omega (arith, r .forth, r .nextFits)
+loop-holds : tie.Need-loop-holds Inv-loop μ-loop Inv-loop2 μ-loop2 Inv-loop3 μ-loop3
+loop-holds c = (
+  search needs,
+  record {
+    numbersSized = search (needs, unmapped);
+    blocksSized = search (needs, unmapped);
+    range = sym (c .before .before .before .before .before .before .before .before .before .before .before .range-fits .ensures) ∙ not-false _ (c .before .before .before .before .before .before .before .before .before .before .if1 .left);
+    channels = sym (c .before .before .before .before .before .before .before .before .before .range-fits2 .ensures) ∙ not-false _ (c .before .before .before .before .before .before .before .before .if2 .left);
+    time = sym (c .before .before .before .before .before .before .before .timeout-fits .ensures) ∙ not-false _ (c .before .before .before .before .before .before .if3 .left);
+    stands = sym (c .before .before .before .before .passes .ensures) ∙ c .before .before .before .if4 .left;
+    blockStands = ne-eqb _ _ (c .if5 .left);
+  },
+  all-none _,
+  mark-none _,
+)
 
-mul-p : tie.Need-mul-p Inv-loop μ-loop Inv-loop2 μ-loop2
+add-n : tie.Need-add-n Inv-loop μ-loop Inv-loop2 μ-loop2 Inv-loop3 μ-loop3
+add-n c = let r = data-range (c .before .before .before .before .before .before .before .before .before .before .before .before .before .before .args .t1) (c .before .loop .inv .1) in omega (arith, r .forth, r .nextFits)
+
+mul-p : tie.Need-mul-p Inv-loop μ-loop Inv-loop2 μ-loop2 Inv-loop3 μ-loop3
 mul-p c = search needs
 
-element-copy-out-p : tie.Need-element-copy-out-p Inv-loop μ-loop Inv-loop2 μ-loop2
+element-copy-out-p :
+    tie.Need-element-copy-out-p Inv-loop μ-loop Inv-loop2 μ-loop2 Inv-loop3 μ-loop3
 element-copy-out-p c = search needs
 
-mul-b : tie.Need-mul-b Inv-loop μ-loop Inv-loop2 μ-loop2
+mul-b : tie.Need-mul-b Inv-loop μ-loop Inv-loop2 μ-loop2 Inv-loop3 μ-loop3
 mul-b c = search needs
 
-element-copy-out-b : tie.Need-element-copy-out-b Inv-loop μ-loop Inv-loop2 μ-loop2
+element-copy-out-b :
+    tie.Need-element-copy-out-b Inv-loop μ-loop Inv-loop2 μ-loop2 Inv-loop3 μ-loop3
 element-copy-out-b c = search needs
 
-number-fits-requires : tie.Need-number-fits-requires Inv-loop μ-loop Inv-loop2 μ-loop2
-number-fits-requires c κs = search needs
+used-fits-requires :
+    tie.Need-used-fits-requires Inv-loop μ-loop Inv-loop2 μ-loop2 Inv-loop3 μ-loop3
+used-fits-requires c κs = search needs
 
-returns-6 : tie.Need-returns-6 Inv-loop μ-loop Inv-loop2 μ-loop2
-returns-6 c = bad-number _ (c .before .before .before .before .before .before .before .loop .i) (omega arith) (number-judged (c .before .before .before .before .before .before .before .before .before .before .before .before .before .before .before .before .before .before .before .before .args .t1) (c .before .before .before .before .before .before .before .loop .i) _ _ (c .before .number-fits .ensures) (not-true _ (c .if6 .taken)))
+returns-6 : tie.Need-returns-6 Inv-loop μ-loop Inv-loop2 μ-loop2 Inv-loop3 μ-loop3
+returns-6 c = let r = data-range (c .before .before .before .before .before .before .before .before .before .before .before .before .before .before .before .before .before .before .before .before .args .t1) (c .before .before .before .before .before .before .before .loop .inv .1) in
+    bad-number _ (c .before .before .before .before .before .before .before .loop .i) (omega (arith, r .room)) (number-judged (c .before .before .before .before .before .before .before .before .before .before .before .before .before .before .before .before .before .before .before .before .args .t1) (c .before .before .before .before .before .before .before .loop .i) _ _ (omega (arith, r .forth)) (c .before .used-fits .ensures) (not-true _ (c .if6 .taken)))
 
-array-read-marked : tie.Need-array-read-marked Inv-loop μ-loop Inv-loop2 μ-loop2
-array-read-marked c = search needs
+array-read-if8 : tie.Need-array-read-if8 Inv-loop μ-loop Inv-loop2 μ-loop2 Inv-loop3 μ-loop3
+array-read-if8 c = search needs
 
-second-requires : tie.Need-second-requires Inv-loop μ-loop Inv-loop2 μ-loop2
-second-requires c κs = search needs
+returns-7 : tie.Need-returns-7 Inv-loop μ-loop Inv-loop2 μ-loop2 Inv-loop3 μ-loop3
+returns-7 c = let r = data-range (c .before .before .before .before .before .before .before .before .before .before .before .before .before .before .before .before .before .before .before .before .before .before .before .args .t1) (c .before .before .before .before .before .before .before .before .before .before .loop .inv .1) in
+    let ok = number-judged (c .before .before .before .before .before .before .before .before .before .before .before .before .before .before .before .before .before .before .before .before .before .before .before .args .t1) (c .before .before .before .before .before .before .before .before .before .before .loop .i) _ _ (omega (arith, r .forth)) (c .before .before .before .before .used-fits .ensures) (not-false _ (c .before .before .before .if6 .left)) in
+    bad-blocks _ (mark-twice (c .before .before .before .before .before .before .before .before .before .before .before .before .before .before .before .before .before .before .before .before .before .before .before .args .t1) (c .before .before .before .before .before .before .before .before .before .before .loop .marks) (c .before .before .before .before .before .before .before .before .before .before .loop .i) (omega (arith, r .room)) (block-range (c .before .before .before .before .before .before .before .before .before .before .before .before .before .before .before .before .before .before .before .before .before .before .before .args .t1) (c .before .before .before .before .before .before .before .before .before .before .loop .inv .1)) ok (c .before .before .before .before .before .before .before .before .before .before .loop .inv .3) (eq-eqb _ _ (c .before .if7 .taken)) (c .if8 .taken))
 
-returns-7 : tie.Need-returns-7 Inv-loop μ-loop Inv-loop2 μ-loop2
-returns-7 c = let r = range-facts (c .before .before .before .before .before .before .before .before .before .before .before .before .before .before .before .before .before .before .before .before .before .before .before .args .t1 .firstchannel .0) (c .before .before .before .before .before .before .before .before .before .before .before .before .before .before .before .before .before .before .before .before .before .before .before .args .t1 .channellow .0) (c .before .before .before .before .before .before .before .before .before .before .before .before .before .before .before .before .before .before .before .before .before .before .before .args .t1 .channelnext .0) (sym (c .before .before .before .before .before .before .before .before .before .before .before .before .before .before .before .before .before .before .before .before .range-fits2 .ensures) ∙ not-false _ (c .before .before .before .before .before .before .before .before .before .before .before .before .before .before .before .before .before .before .before .if2 .left)) in
-    let ok = number-judged (c .before .before .before .before .before .before .before .before .before .before .before .before .before .before .before .before .before .before .before .before .before .before .before .args .t1) (c .before .before .before .before .before .before .before .before .before .before .loop .i) _ _ (c .before .before .before .before .number-fits .ensures) (not-false _ (c .before .before .before .if6 .left)) in
-    bad-blocks _ (mark-twice (c .before .before .before .before .before .before .before .before .before .before .before .before .before .before .before .before .before .before .before .before .before .before .before .args .t1) (c .before .before .before .before .before .before .before .before .before .before .loop .marks) (c .before .before .before .before .before .before .before .before .before .before .loop .i) _ (omega arith) r ok (c .before .before .before .before .before .before .before .before .before .before .loop .inv .2) (c .before .second .ensures) (c .if7 .taken))
-
-kept-requires : tie.Need-kept-requires Inv-loop μ-loop Inv-loop2 μ-loop2
-kept-requires c κs = search needs
-
-array-write-marks : tie.Need-array-write-marks Inv-loop μ-loop Inv-loop2 μ-loop2
+array-write-marks : tie.Need-array-write-marks Inv-loop μ-loop Inv-loop2 μ-loop2 Inv-loop3 μ-loop3
 array-write-marks c = search needs
 
-add-i : tie.Need-add-i Inv-loop μ-loop Inv-loop2 μ-loop2
-add-i c = search needs
+add-i : tie.Need-add-i Inv-loop μ-loop Inv-loop2 μ-loop2 Inv-loop3 μ-loop3
+add-i c = let r = data-range (c .before .before .before .before .before .before .before .before .before .before .before .before .before .before .before .before .before .before .before .before .before .before .args .t1) (c .before .before .before .before .before .before .before .before .before .loop .inv .1) in omega (arith, r .nextFits)
 
-loop-less : tie.Need-loop-less Inv-loop μ-loop Inv-loop2 μ-loop2
+loop-less : tie.Need-loop-less Inv-loop μ-loop Inv-loop2 μ-loop2 Inv-loop3 μ-loop3
 loop-less c = search needs
 
-loop-again : tie.Need-loop-again Inv-loop μ-loop Inv-loop2 μ-loop2
-loop-again c = let r = range-facts (c .before .before .before .before .before .before .before .before .before .before .before .before .before .before .before .before .before .before .before .before .before .before .before .before .args .t1 .firstchannel .0) (c .before .before .before .before .before .before .before .before .before .before .before .before .before .before .before .before .before .before .before .before .before .before .before .before .args .t1 .channellow .0) (c .before .before .before .before .before .before .before .before .before .before .before .before .before .before .before .before .before .before .before .before .before .before .before .before .args .t1 .channelnext .0) (sym (c .before .before .before .before .before .before .before .before .before .before .before .before .before .before .before .before .before .before .before .before .before .range-fits2 .ensures) ∙ not-false _ (c .before .before .before .before .before .before .before .before .before .before .before .before .before .before .before .before .before .before .before .before .if2 .left)) in
-    let ok = number-judged (c .before .before .before .before .before .before .before .before .before .before .before .before .before .before .before .before .before .before .before .before .before .before .before .before .args .t1) (c .before .before .before .before .before .before .before .before .before .before .before .loop .i) _ _ (c .before .before .before .before .before .number-fits .ensures) (not-false _ (c .before .before .before .before .if6 .left)) in
-    (search needs, all-more _ _ (c .before .before .before .before .before .before .before .before .before .before .before .loop .inv .1) ok, mark-next (c .before .before .before .before .before .before .before .before .before .before .before .before .before .before .before .before .before .before .before .before .before .before .before .before .args .t1) (c .before .before .before .before .before .before .before .before .before .before .before .loop .marks) (c .before .before .before .before .before .before .before .before .before .before .before .loop .i) _ _ r ok (c .before .before .before .before .before .before .before .before .before .before .before .loop .inv .2) (c .before .before .second .ensures) (c .before .if7 .left) (c .kept .ensures))
+loop-again : tie.Need-loop-again Inv-loop μ-loop Inv-loop2 μ-loop2 Inv-loop3 μ-loop3
+loop-again c = let s = c .before .before .before .before .before .before .before .before .before .before .before .before .before .before .before .before .before .before .before .before .before .before .args .t1 in
+    let i = c .before .before .before .before .before .before .before .before .before .loop .i in
+    let r = data-range s (c .before .before .before .before .before .before .before .before .before .loop .inv .1) in
+    let ok = number-judged s i _ _ (omega (arith, r .forth)) (c .before .before .before .used-fits .ensures) (not-false _ (c .before .before .if6 .left)) in (
+      search needs,
+      c .before .before .before .before .before .before .before .before .before .loop .inv .1,
+      all-more _ _ (c .before .before .before .before .before .before .before .before .before .loop .inv .2) ok,
+      ⊎-elim
+          (λ w. subst (λ (m : List Bool). Marked s m (i + 1)) (sym (w .2)) (mark-pending s (c .before .before .before .before .before .before .before .before .before .loop .marks) i (block-range s (c .before .before .before .before .before .before .before .before .before .loop .inv .1)) ok (c .before .before .before .before .before .before .before .before .before .loop .inv .3) (eq-eqb _ _ (w .0 .taken)) (w .1 .left)))
+          (λ w. subst (λ (m : List Bool). Marked s m (i + 1)) (sym (w .1)) (mark-other s (c .before .before .before .before .before .before .before .before .before .loop .marks) i (c .before .before .before .before .before .before .before .before .before .loop .inv .3) (ne-eqb _ _ (w .0 .left))))
+          (c .if7 .came),
+    )
 
-loop2-holds : tie.Need-loop2-holds Inv-loop μ-loop Inv-loop2 μ-loop2
-loop2-holds c = (search needs, all-none _)
+count-requires : tie.Need-count-requires Inv-loop μ-loop Inv-loop2 μ-loop2 Inv-loop3 μ-loop3
+count-requires c κs = search needs
 
-add-c : tie.Need-add-c Inv-loop μ-loop Inv-loop2 μ-loop2
-add-c c = let r = range-facts (c .before .before .before .before .before .before .before .before .before .before .before .before .before .before .before .before .args .t1 .firstchannel .0) (c .before .before .before .before .before .before .before .before .before .before .before .before .before .before .before .before .args .t1 .channellow .0) (c .before .before .before .before .before .before .before .before .before .before .before .before .before .before .before .before .args .t1 .channelnext .0) (sym (c .before .before .before .before .before .before .before .before .before .before .before .before .before .range-fits2 .ensures) ∙ not-false _ (c .before .before .before .before .before .before .before .before .before .before .before .before .if2 .left)) in omega (arith, r .forth, r .nextFits)
+loop2-holds : tie.Need-loop2-holds Inv-loop μ-loop Inv-loop2 μ-loop2 Inv-loop3 μ-loop3
+loop2-holds c = (search needs, raised-none _ _)
 
-mul-b-2 : tie.Need-mul-b-2 Inv-loop μ-loop Inv-loop2 μ-loop2
-mul-b-2 c = search needs
+mul-p-2 : tie.Need-mul-p-2 Inv-loop μ-loop Inv-loop2 μ-loop2 Inv-loop3 μ-loop3
+mul-p-2 c = search needs
 
-element-copy-out-b-2 : tie.Need-element-copy-out-b-2 Inv-loop μ-loop Inv-loop2 μ-loop2
-element-copy-out-b-2 c = search needs
+element-copy-out-p-2 :
+    tie.Need-element-copy-out-p-2 Inv-loop μ-loop Inv-loop2 μ-loop2 Inv-loop3 μ-loop3
+element-copy-out-p-2 c = search needs
 
-array-read-single : tie.Need-array-read-single Inv-loop μ-loop Inv-loop2 μ-loop2
-array-read-single c = search needs
+past-requires : tie.Need-past-requires Inv-loop μ-loop Inv-loop2 μ-loop2 Inv-loop3 μ-loop3
+past-requires c κs = search needs
 
-block-fits-requires : tie.Need-block-fits-requires Inv-loop μ-loop Inv-loop2 μ-loop2
-block-fits-requires c κs = search needs
+number-wrong-requires :
+    tie.Need-number-wrong-requires Inv-loop μ-loop Inv-loop2 μ-loop2 Inv-loop3 μ-loop3
+number-wrong-requires c κs = search needs
 
-returns-8 : tie.Need-returns-8 Inv-loop μ-loop Inv-loop2 μ-loop2
-returns-8 c = bad-block _ (c .before .before .before .before .loop2 .j) (omega arith) (block-judged (c .before .before .before .before .before .before .before .before .before .before .before .before .before .before .before .before .before .before .before .args .t1) (c .before .before .before .before .before .before .loop .marks) (c .before .before .before .before .before .before .loop .i) (c .before .before .before .before .loop2 .j) _ _ (c .before .before .before .before .before .before .loop .inv .2) (omega arith) (omega arith) (c .before .block-fits .ensures) (not-true _ (c .if8 .taken)))
-
-add-j : tie.Need-add-j Inv-loop μ-loop Inv-loop2 μ-loop2
+add-j : tie.Need-add-j Inv-loop μ-loop Inv-loop2 μ-loop2 Inv-loop3 μ-loop3
 add-j c = search needs
 
-loop2-less : tie.Need-loop2-less Inv-loop μ-loop Inv-loop2 μ-loop2
+loop2-less : tie.Need-loop2-less Inv-loop μ-loop Inv-loop2 μ-loop2 Inv-loop3 μ-loop3
 loop2-less c = search needs
 
-loop2-again : tie.Need-loop2-again Inv-loop μ-loop Inv-loop2 μ-loop2
-loop2-again c = (search needs, all-more _ _ (c .before .before .before .before .loop2 .inv .1) (block-judged (c .before .before .before .before .before .before .before .before .before .before .before .before .before .before .before .before .before .before .before .args .t1) (c .before .before .before .before .before .before .loop .marks) (c .before .before .before .before .before .before .loop .i) (c .before .before .before .before .loop2 .j) _ _ (c .before .before .before .before .before .before .loop .inv .2) (omega arith) (omega arith) (c .before .block-fits .ensures) (not-false _ (c .if8 .left))))
+loop2-again : tie.Need-loop2-again Inv-loop μ-loop Inv-loop2 μ-loop2 Inv-loop3 μ-loop3
+loop2-again c = (search needs, raised-more _ (numberPlaced 32 (c .before .before .before .before .before .before .before .before .before .before .before .before .before .before .before .before .before .before .before .before .args .t1)) _ _ _ (c .before .before .before .before .loop2 .inv .1) (rw (c .before .past .ensures, c .before .before .before .before .before .count .ensures) at (c .number-wrong .ensures)))
 
-returns-9 : tie.Need-returns-9 Inv-loop μ-loop Inv-loop2 μ-loop2
-returns-9 c = let nl : length (c .before .before .before .before .before .before .before .before .before .before .before .before .before .before .before .before .args .t1 .numbers) ≡ 32 = search (needs, unmapped) in
-    let bl : length (c .before .before .before .before .before .before .before .before .before .before .before .before .before .before .before .before .args .t1 .blocks) ≡ 32 = search (needs, unmapped) in
-    passes-consistent _ nl bl (record {
-      range = sym (c .before .before .before .before .before .before .before .before .before .before .before .before .before .before .before .range-fits .ensures) ∙ not-false _ (c .before .before .before .before .before .before .before .before .before .before .before .before .before .before .if1 .left);
-      channels = sym (c .before .before .before .before .before .before .before .before .before .before .before .before .before .range-fits2 .ensures) ∙ not-false _ (c .before .before .before .before .before .before .before .before .before .before .before .before .if2 .left);
-      time = sym (c .before .before .before .before .before .before .before .before .before .before .before .timeout-fits .ensures) ∙ not-false _ (c .before .before .before .before .before .before .before .before .before .before .if3 .left);
-      stands = sym (c .before .before .before .before .before .before .before .before .passes .ensures) ∙ c .before .before .before .before .before .before .before .if4 .left;
-      blockStands = ne-eqb _ _ (c .before .before .before .before .if5 .left);
-      numbers = subst (λ (n : ℕ). allBelow (numberOk 32 (c .before .before .before .before .before .before .before .before .before .before .before .before .before .before .before .before .args .t1)) n ≡ true) {y = 32} (omega arith) (c .before .before .before .loop .inv .1);
-      blocks = subst (λ (n : ℕ). allBelow (blockOk 32 (c .before .before .before .before .before .before .before .before .before .before .before .before .before .before .before .before .args .t1)) n ≡ true) {y = 32} (omega arith) (c .before .loop2 .inv .1);
-    })
+count-requires-2 : tie.Need-count-requires-2 Inv-loop μ-loop Inv-loop2 μ-loop2 Inv-loop3 μ-loop3
+count-requires-2 c κs = search needs
+
+loop3-holds : tie.Need-loop3-holds Inv-loop μ-loop Inv-loop2 μ-loop2 Inv-loop3 μ-loop3
+loop3-holds c = (search needs, raised-none _ _)
+
+mul-b-2 : tie.Need-mul-b-2 Inv-loop μ-loop Inv-loop2 μ-loop2 Inv-loop3 μ-loop3
+mul-b-2 c = search needs
+
+element-copy-out-b-2 :
+    tie.Need-element-copy-out-b-2 Inv-loop μ-loop Inv-loop2 μ-loop2 Inv-loop3 μ-loop3
+element-copy-out-b-2 c = search needs
+
+array-read-single : tie.Need-array-read-single Inv-loop μ-loop Inv-loop2 μ-loop2 Inv-loop3 μ-loop3
+array-read-single c = search needs
+
+past-requires-2 : tie.Need-past-requires-2 Inv-loop μ-loop Inv-loop2 μ-loop2 Inv-loop3 μ-loop3
+past-requires-2 c κs = search needs
+
+block-wrong-requires :
+    tie.Need-block-wrong-requires Inv-loop μ-loop Inv-loop2 μ-loop2 Inv-loop3 μ-loop3
+block-wrong-requires c κs = search needs
+
+add-k : tie.Need-add-k Inv-loop μ-loop Inv-loop2 μ-loop2 Inv-loop3 μ-loop3
+add-k c = search needs
+
+loop3-less : tie.Need-loop3-less Inv-loop μ-loop Inv-loop2 μ-loop2 Inv-loop3 μ-loop3
+loop3-less c = search needs
+
+loop3-again : tie.Need-loop3-again Inv-loop μ-loop Inv-loop2 μ-loop2 Inv-loop3 μ-loop3
+loop3-again c = (search needs, raised-more _ (blockPlaced 32 (c .before .before .before .before .before .before .before .before .before .before .before .before .before .before .before .before .before .before .before .before .before .before .before .args .t1) (c .before .before .before .before .before .before .before .before .before .before .loop .marks)) _ _ _ (c .before .before .before .before .loop3 .inv .1) (rw (c .before .past2 .ensures, c .before .before .before .before .before .count2 .ensures) at (c .block-wrong .ensures)))
+
+returns-8 : tie.Need-returns-8 Inv-loop μ-loop Inv-loop2 μ-loop2 Inv-loop3 μ-loop3
+returns-8 c = judged _ (c .before .before .before .before .before .before .before .loop .marks) (c .before .before .before .before .before .before .before .loop .i) _ (c .before .before .before .before .before .before .before .loop .inv .1) (omega arith) (c .before .before .before .before .before .before .before .loop .inv .2) (c .before .before .before .before .before .before .before .loop .inv .3)
+    (raised-twice _ _ 32 32 _ _ _ _ (omega arith) (omega arith) (c .before .before .before .before .loop2 .inv .1) (c .before .loop3 .inv .1))
 
 pub consistent-spec : {M : Type 1} → statement M
 consistent-spec =
@@ -173,6 +231,8 @@ consistent-spec =
     μ-loop
     Inv-loop2
     μ-loop2
+    Inv-loop3
+    μ-loop3
     range-fits-requires
     returns
     range-fits-requires-2
@@ -186,30 +246,38 @@ consistent-spec =
     mul-block
     element-copy-out-block
     returns-5
+    sub-span
     loop-holds
     add-n
     mul-p
     element-copy-out-p
     mul-b
     element-copy-out-b
-    number-fits-requires
+    used-fits-requires
     returns-6
-    array-read-marked
-    second-requires
+    array-read-if8
     returns-7
-    kept-requires
     array-write-marks
     add-i
     loop-less
     loop-again
+    count-requires
     loop2-holds
-    add-c
-    mul-b-2
-    element-copy-out-b-2
-    array-read-single
-    block-fits-requires
-    returns-8
+    mul-p-2
+    element-copy-out-p-2
+    past-requires
+    number-wrong-requires
     add-j
     loop2-less
     loop2-again
-    returns-9)
+    count-requires-2
+    loop3-holds
+    mul-b-2
+    element-copy-out-b-2
+    array-read-single
+    past-requires-2
+    block-wrong-requires
+    add-k
+    loop3-less
+    loop3-again
+    returns-8)

@@ -1,7 +1,8 @@
 -- `sender::sweeping::sweep` meets its contract: each way out is an instance of a law.
 use mathlib.Core.Path.{sym, _∙_}
+use native.Mathlib.Omega.{arith}
 use borrow.Author.Tests.{not-true, not-false}
-use Rattle.sender.proofs.Acked.{lows-fit}
+use Rattle.sender.specs.Turnable.{turnable}
 use Rattle.sender.proofs.Swept.{swept-unfit, swept-fit}
 use borrow.Author.Needs.{needs}
 use Rattle.sender.proofs.sweeping.sweep.Statement.{statement}
@@ -14,10 +15,11 @@ returns : tie.Need-returns
 returns c = swept-unfit _ _ (sym (c .before .consistent .ensures) ∙ not-true _ (c .if1 .taken))
 
 judge-all-requires : tie.Need-judge-all-requires
-judge-all-requires c κs = lows-fit _ (sym (c .before .consistent .ensures) ∙ not-false _ (c .if1 .left)) .0
+judge-all-requires c κs =
+    let t = turnable 32 32 _ (omega arith) (omega arith) (sym (c .before .consistent .ensures) ∙ not-false _ (c .if1 .left)) in omega (arith, t .low, t .next)
 
 turn-requires : tie.Need-turn-requires
-turn-requires c κs = let f = lows-fit _ (sym (c .before .before .before .consistent .ensures) ∙ not-false _ (c .before .before .if1 .left)) in (f .0, f .1)
+turn-requires c κs = turnable 32 32 _ (omega arith) (omega arith) (sym (c .before .before .before .consistent .ensures) ∙ not-false _ (c .before .before .if1 .left))
 
 returns-2 : tie.Need-returns-2
 returns-2 c =

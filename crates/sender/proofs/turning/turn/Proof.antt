@@ -7,27 +7,30 @@ use borrow.Author.Needs.{needs}
 use borrow.Author.Tests.{not-true, not-false, eq-eqb, ne-eqb}
 use Rattle.sender.specs.Chosen.{chosenBy}
 use Rattle.sender.specs.Turn.{turnUpTo, numbersMoved, blocksMoved}
-use Rattle.sender.proofs.Turned.{turn-none, turn-step, turn-skip, turned-low, numbers-more, numbers-stopped, numbers-ended, moved-channellow, blocks-more, blocks-stop, blocks-end, turned-whole}
+use Rattle.sender.proofs.Turned.{turn-none, turn-step, turn-skip, turn-all, turned-low, numbers-more, numbers-stopped, numbers-ended, moved-channellow, blocks-more, blocks-stop, blocks-end, turned-whole}
 use Rattle.sender.proofs.turning.turn.Statement.{statement}
 use Rattle.sender.proofs.turning.turn.Tie as tie
 
 abbrev Inv-loop : tie.InvT-loop
-Inv-loop upto number block flags low q₀ i₀ q i = (i ≤ 32) × (q ≡ turnUpTo 32 (record { number = number; block = block }) (chosenBy 32 flags upto) q₀ i)
+Inv-loop upto number block flags low count q₀ i₀ q i = (i ≤ count) × (q ≡ turnUpTo 32 (record { number = number; block = block }) (chosenBy 32 flags upto) q₀ i)
 
 abbrev μ-loop : tie.MeasureT-loop
-μ-loop upto number block flags low q₀ i₀ q i = 32 - i
+μ-loop upto number block flags low count q₀ i₀ q i = count - i
 
 abbrev Inv-loop2 : tie.InvT-loop2
-Inv-loop2 upto number block low q₀ i k₀ q k = (k ≤ 32) × (q .low .0 ≤ q₀ .low .0 + k) × (numbersMoved 32 (32 - k) q ≡ numbersMoved 32 32 q₀)
+Inv-loop2 upto number block low count q₀ i k₀ q k = (k ≤ 32) × (q .low .0 ≤ q₀ .low .0 + k) × (numbersMoved 32 (32 - k) q ≡ numbersMoved 32 32 q₀)
 
 abbrev μ-loop2 : tie.MeasureT-loop2
-μ-loop2 upto number block low q₀ i k₀ q k = 32 - k
+μ-loop2 upto number block low count q₀ i k₀ q k = 32 - k
 
 abbrev Inv-loop3 : tie.InvT-loop3
-Inv-loop3 upto number block low q₀ i k m₀ q m = (m ≤ 32) × (q .channellow .0 ≤ q₀ .channellow .0 + m) × (blocksMoved 32 (32 - m) q ≡ blocksMoved 32 32 q₀)
+Inv-loop3 upto number block low count q₀ i k m₀ q m = (m ≤ 32) × (q .channellow .0 ≤ q₀ .channellow .0 + m) × (blocksMoved 32 (32 - m) q ≡ blocksMoved 32 32 q₀)
 
 abbrev μ-loop3 : tie.MeasureT-loop3
-μ-loop3 upto number block low q₀ i k m₀ q m = 32 - m
+μ-loop3 upto number block low count q₀ i k m₀ q m = 32 - m
+
+sub-count : tie.Need-sub-count Inv-loop μ-loop Inv-loop2 μ-loop2 Inv-loop3 μ-loop3
+sub-count c = search needs
 
 loop-holds : tie.Need-loop-holds Inv-loop μ-loop Inv-loop2 μ-loop2 Inv-loop3 μ-loop3
 loop-holds c = (search needs, turn-none _ _ _)
@@ -55,15 +58,15 @@ element-copy-out-b :
     tie.Need-element-copy-out-b Inv-loop μ-loop Inv-loop2 μ-loop2 Inv-loop3 μ-loop3
 element-copy-out-b c = search needs
 
-mul-t36 : tie.Need-mul-t36 Inv-loop μ-loop Inv-loop2 μ-loop2 Inv-loop3 μ-loop3
-mul-t36 c = search needs
+mul-t37 : tie.Need-mul-t37 Inv-loop μ-loop Inv-loop2 μ-loop2 Inv-loop3 μ-loop3
+mul-t37 c = search needs
 
 element-set-from-q :
     tie.Need-element-set-from-q Inv-loop μ-loop Inv-loop2 μ-loop2 Inv-loop3 μ-loop3
 element-set-from-q c = search needs
 
-mul-t36-2 : tie.Need-mul-t36-2 Inv-loop μ-loop Inv-loop2 μ-loop2 Inv-loop3 μ-loop3
-mul-t36-2 c = search needs
+mul-t37-2 : tie.Need-mul-t37-2 Inv-loop μ-loop Inv-loop2 μ-loop2 Inv-loop3 μ-loop3
+mul-t37-2 c = search needs
 
 element-set-from-q-2 :
     tie.Need-element-set-from-q-2 Inv-loop μ-loop Inv-loop2 μ-loop2 Inv-loop3 μ-loop3
@@ -78,8 +81,8 @@ loop-less c = search needs
 loop-again : tie.Need-loop-again Inv-loop μ-loop Inv-loop2 μ-loop2 Inv-loop3 μ-loop3
 unfolding chosenBy
 loop-again c = ⊎-elim
-    (λ w. (omega arith, w .4 ∙ turn-step _ _ (c .before .before .before .before .before .args .s) (c .before .before .before .before .loop .q) (c .before .before .before .before .loop .i) (c .before .before .before .before .loop .inv .1) (sym (c .before .turns .ensures) ∙ w .0 .taken)))
-    (λ w. (omega arith, w .1 ∙ turn-skip _ _ (c .before .before .before .before .before .args .s) (c .before .before .before .before .loop .q) (c .before .before .before .before .loop .i) (c .before .before .before .before .loop .inv .1) (sym (c .before .turns .ensures) ∙ w .0 .left)))
+    (λ w. (omega arith, w .4 ∙ turn-step _ _ (c .before .before .before .before .before .before .args .s) (c .before .before .before .before .loop .q) (c .before .before .before .before .loop .i) (c .before .before .before .before .loop .inv .1) (sym (c .before .turns .ensures) ∙ w .0 .taken)))
+    (λ w. (omega arith, w .1 ∙ turn-skip _ _ (c .before .before .before .before .before .before .args .s) (c .before .before .before .before .loop .q) (c .before .before .before .before .loop .i) (c .before .before .before .before .loop .inv .1) (sym (c .before .turns .ensures) ∙ w .0 .left)))
     (c .if1 .came)
 
 loop2-holds : tie.Need-loop2-holds Inv-loop μ-loop Inv-loop2 μ-loop2 Inv-loop3 μ-loop3
@@ -95,15 +98,15 @@ element-copy-out-p-2 c = search needs
 passes-requires : tie.Need-passes-requires Inv-loop μ-loop Inv-loop2 μ-loop2 Inv-loop3 μ-loop3
 passes-requires c κs = search needs
 
-mul-t47 : tie.Need-mul-t47 Inv-loop μ-loop Inv-loop2 μ-loop2 Inv-loop3 μ-loop3
-mul-t47 c = search needs
+mul-t48 : tie.Need-mul-t48 Inv-loop μ-loop Inv-loop2 μ-loop2 Inv-loop3 μ-loop3
+mul-t48 c = search needs
 
 element-set-from-q-3 :
     tie.Need-element-set-from-q-3 Inv-loop μ-loop Inv-loop2 μ-loop2 Inv-loop3 μ-loop3
 element-set-from-q-3 c = search needs
 
-add-t46 : tie.Need-add-t46 Inv-loop μ-loop Inv-loop2 μ-loop2 Inv-loop3 μ-loop3
-add-t46 c = let e = turned-low (record { number = c .before .before .before .before .before .before .before .args .number; block = c .before .before .before .before .before .before .before .args .block }) (chosenBy 32 (c .before .before .before .before .before .before .before .args .t2) (c .before .before .before .before .before .before .before .args .upto)) (c .before .before .before .before .before .before .before .args .s) (c .before .before .before .before .before .before .loop .q) (c .before .before .before .before .before .before .loop .i) (c .before .before .before .before .before .before .loop .inv .1) in omega arith
+add-t47 : tie.Need-add-t47 Inv-loop μ-loop Inv-loop2 μ-loop2 Inv-loop3 μ-loop3
+add-t47 c = let e = turned-low (record { number = c .before .before .before .before .before .before .before .before .args .number; block = c .before .before .before .before .before .before .before .before .args .block }) (chosenBy 32 (c .before .before .before .before .before .before .before .before .args .t2) (c .before .before .before .before .before .before .before .before .args .upto)) (c .before .before .before .before .before .before .before .before .args .s) (c .before .before .before .before .before .before .loop .q) (c .before .before .before .before .before .before .loop .i) (c .before .before .before .before .before .before .loop .inv .1) in omega arith
 
 add-k : tie.Need-add-k Inv-loop μ-loop Inv-loop2 μ-loop2 Inv-loop3 μ-loop3
 add-k c = search needs
@@ -130,22 +133,22 @@ returns c = let ex : c .before .before .before .before .before .before .loop2 .q
     (λ w. numbers-ended _ _ (c .before .before .before .before .before .before .loop2 .k) (c .before .before .before .before .before .before .loop2 .inv .2) (omega arith))
     (λ w. numbers-stopped _ _ (c .before .before .before .before .before .before .loop2 .k) _ (c .before .before .before .before .before .before .loop2 .inv .2) (w .2 .ensures) (not-true _ (w .3 .taken)))
     (c .before .before .before .before .before .loop2-test .came) in
-    turned-whole _ _ _ (c .before .before .before .before .before .before .before .before .loop .q) (c .before .before .before .before .before .before .loop2 .q) _ (c .before .before .before .before .before .before .before .before .loop .i) (omega arith) (c .before .before .before .before .before .before .before .before .loop .inv .1) ex (blocks-stop _ (c .before .before .before .before .loop3 .q) (ne-eqb _ _ (c .if3 .taken)) ∙ c .before .before .before .before .loop3 .inv .2)
+    turned-whole _ _ _ (c .before .before .before .before .before .before .before .before .loop .q) (c .before .before .before .before .before .before .loop2 .q) _ 32 refl (turn-all _ _ _ (c .before .before .before .before .before .before .before .before .loop .q) (c .before .before .before .before .before .before .before .before .loop .i) (c .before .before .before .before .before .before .before .before .before .before .pre) (c .before .before .before .before .before .before .before .before .loop .inv .1) (omega (arith, c .before .before .before .before .before .before .before .before .before .before .pre .low))) ex (blocks-stop _ (c .before .before .before .before .loop3 .q) (ne-eqb _ _ (c .if3 .taken)) ∙ c .before .before .before .before .loop3 .inv .2)
 
-mul-t57 : tie.Need-mul-t57 Inv-loop μ-loop Inv-loop2 μ-loop2 Inv-loop3 μ-loop3
-mul-t57 c = search needs
+mul-t58 : tie.Need-mul-t58 Inv-loop μ-loop Inv-loop2 μ-loop2 Inv-loop3 μ-loop3
+mul-t58 c = search needs
 
 element-set-from-q-4 :
     tie.Need-element-set-from-q-4 Inv-loop μ-loop Inv-loop2 μ-loop2 Inv-loop3 μ-loop3
 element-set-from-q-4 c = search needs
 
-add-t56 : tie.Need-add-t56 Inv-loop μ-loop Inv-loop2 μ-loop2 Inv-loop3 μ-loop3
-add-t56 c = let ex : c .before .before .before .before .before .before .loop2 .q ≡ numbersMoved 32 32 (c .before .before .before .before .before .before .before .before .loop .q) =
+add-t57 : tie.Need-add-t57 Inv-loop μ-loop Inv-loop2 μ-loop2 Inv-loop3 μ-loop3
+add-t57 c = let ex : c .before .before .before .before .before .before .loop2 .q ≡ numbersMoved 32 32 (c .before .before .before .before .before .before .before .before .loop .q) =
     ⊎-elim
     (λ w. numbers-ended _ _ (c .before .before .before .before .before .before .loop2 .k) (c .before .before .before .before .before .before .loop2 .inv .2) (omega arith))
     (λ w. numbers-stopped _ _ (c .before .before .before .before .before .before .loop2 .k) _ (c .before .before .before .before .before .before .loop2 .inv .2) (w .2 .ensures) (not-true _ (w .3 .taken)))
     (c .before .before .before .before .before .loop2-test .came) in
-    let e = moved-channellow (record { number = c .before .before .before .before .before .before .before .before .before .args .number; block = c .before .before .before .before .before .before .before .before .before .args .block }) (chosenBy 32 (c .before .before .before .before .before .before .before .before .before .args .t2) (c .before .before .before .before .before .before .before .before .before .args .upto)) (c .before .before .before .before .before .before .before .before .before .args .s) (c .before .before .before .before .before .before .before .before .loop .q) (c .before .before .before .before .before .before .loop2 .q) (c .before .before .before .before .before .before .before .before .loop .i) (c .before .before .before .before .before .before .before .before .loop .inv .1) ex in omega arith
+    let e = moved-channellow (record { number = c .before .before .before .before .before .before .before .before .before .before .args .number; block = c .before .before .before .before .before .before .before .before .before .before .args .block }) (chosenBy 32 (c .before .before .before .before .before .before .before .before .before .before .args .t2) (c .before .before .before .before .before .before .before .before .before .before .args .upto)) (c .before .before .before .before .before .before .before .before .before .before .args .s) (c .before .before .before .before .before .before .before .before .loop .q) (c .before .before .before .before .before .before .loop2 .q) (c .before .before .before .before .before .before .before .before .loop .i) (c .before .before .before .before .before .before .before .before .loop .inv .1) ex in omega arith
 
 add-m : tie.Need-add-m Inv-loop μ-loop Inv-loop2 μ-loop2 Inv-loop3 μ-loop3
 add-m c = search needs
@@ -162,7 +165,7 @@ returns-2 c = let ex : c .before .before .before .loop2 .q ≡ numbersMoved 32 3
     (λ w. numbers-ended _ _ (c .before .before .before .loop2 .k) (c .before .before .before .loop2 .inv .2) (omega arith))
     (λ w. numbers-stopped _ _ (c .before .before .before .loop2 .k) _ (c .before .before .before .loop2 .inv .2) (w .2 .ensures) (not-true _ (w .3 .taken)))
     (c .before .before .loop2-test .came) in
-    turned-whole _ _ _ (c .before .before .before .before .before .loop .q) (c .before .before .before .loop2 .q) _ (c .before .before .before .before .before .loop .i) (omega arith) (c .before .before .before .before .before .loop .inv .1) ex (blocks-end (32 - c .before .loop3 .m) (c .before .loop3 .q) (omega arith) ∙ c .before .loop3 .inv .2)
+    turned-whole _ _ _ (c .before .before .before .before .before .loop .q) (c .before .before .before .loop2 .q) _ 32 refl (turn-all _ _ _ (c .before .before .before .before .before .loop .q) (c .before .before .before .before .before .loop .i) (c .before .before .before .before .before .before .before .pre) (c .before .before .before .before .before .loop .inv .1) (omega (arith, c .before .before .before .before .before .before .before .pre .low))) ex (blocks-end (32 - c .before .loop3 .m) (c .before .loop3 .q) (omega arith) ∙ c .before .loop3 .inv .2)
 
 pub turn-spec : {M : Type 1} → statement M
 turn-spec =
@@ -174,6 +177,7 @@ turn-spec =
     μ-loop2
     Inv-loop3
     μ-loop3
+    sub-count
     loop-holds
     add-n
     mul-p
@@ -182,9 +186,9 @@ turn-spec =
     turns-requires
     mul-b
     element-copy-out-b
-    mul-t36
+    mul-t37
     element-set-from-q
-    mul-t36-2
+    mul-t37-2
     element-set-from-q-2
     add-i
     loop-less
@@ -193,9 +197,9 @@ turn-spec =
     mul-p-2
     element-copy-out-p-2
     passes-requires
-    mul-t47
+    mul-t48
     element-set-from-q-3
-    add-t46
+    add-t47
     add-k
     loop2-less
     loop2-again
@@ -203,9 +207,9 @@ turn-spec =
     mul-b-2
     element-copy-out-b-2
     returns
-    mul-t57
+    mul-t58
     element-set-from-q-4
-    add-t56
+    add-t57
     add-m
     loop3-less
     loop3-again
