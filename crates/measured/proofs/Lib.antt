@@ -1,0 +1,3 @@
+-- What the loops' proofs share.
+mod Going
+mod Stepped
