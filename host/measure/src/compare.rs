@@ -1,15 +1,14 @@
 //! Every call made by both sides, and everything that it answers and leaves compared: the answer, all fields of the records, every
 //! byte of the store and of the output.
 
+use crate::calls::{self, Lent};
 use crate::ours::{self, Both, Parts};
-use crate::rows::{Row, Start, Work, CALLS};
+use crate::rows::{Row, Start, Work};
 use crate::rule::Rule;
 use crate::{alike, theirs};
 use std::collections::BTreeMap;
 use std::fmt::{Debug, Write};
 
-/// The tick at which blocks are sent.
-pub const TICK: u32 = 4_294_967_000;
 /// The room that is lent for outputs: the longest datagram, and a little.
 pub const ROOM: usize = 1_240;
 
@@ -25,29 +24,44 @@ struct Side<R> {
     records: R,
     store: Vec<u8>,
     out: Vec<u8>,
+    /// How many bytes of the output are lent.
+    room: usize,
 }
 
-/// Makes every call of a row, and then as many from records with one field changed as there are in one batch of sixteen.
+/// Makes every call of a row. One batch in sixteen is made again, from a record with one field changed or with little room for
+/// the output.
 pub fn row(row: &Row, seed: u64) -> Result<Compared, String> {
     let mut rule = Rule(!seed);
     let mut compared = Compared::default();
-    let mut ours =
-        Side { records: row.starts[0].ours, store: row.store.clone(), out: vec![0; ROOM] };
-    let mut plain = Side { records: row.starts[0], store: row.store.clone(), out: vec![0; ROOM] };
+    let mut ours = Side::new(row, row.starts[0].ours);
+    let mut plain = Side::new(row, row.starts[0]);
     for (k, batch) in row.batches.iter().enumerate() {
         let start = row.starts[batch.start];
         let parts = row.parts(batch);
-        calls(row, start, parts, true, &mut ours, &mut plain, &mut compared)?;
+        batch_calls(row, start, parts, true, &mut ours, &mut plain, &mut compared)?;
         if k % 16 == 0 {
-            let spoilt = start.spoilt(&mut rule);
-            calls(row, spoilt, parts, false, &mut ours, &mut plain, &mut compared)?;
+            let mut again = start;
+            if rule.one_in(2) {
+                again = start.spoilt(&mut rule);
+            } else {
+                ours.room = rule.below(90) as usize;
+                plain.room = ours.room;
+            }
+            batch_calls(row, again, parts, false, &mut ours, &mut plain, &mut compared)?;
+            (ours.room, plain.room) = (ROOM, ROOM);
         }
     }
     Ok(compared)
 }
 
+impl<R> Side<R> {
+    fn new(row: &Row, records: R) -> Side<R> {
+        Side { records, store: row.store.clone(), out: vec![0; ROOM], room: ROOM }
+    }
+}
+
 /// Makes the calls of one batch, one at a time.
-fn calls(
+fn batch_calls(
     row: &Row,
     start: Start,
     parts: Parts,
@@ -58,11 +72,7 @@ fn calls(
 ) -> Result<(), String> {
     ours.records = start.ours;
     plain.records = start;
-    let mut from = 0;
-    for i in 0..CALLS {
-        let end = parts.ends[i] as usize;
-        let part = &parts.bytes[from..end];
-        from = end;
+    for (i, part) in parts.iter().enumerate() {
         let answer = call(row.work, part, consistent, ours, plain)
             .map_err(|difference| told(row, i, part, &start, &difference))?;
         *compared.answers.entry(if answer >= 256 { 0 } else { answer }).or_default() += 1;
@@ -85,8 +95,12 @@ fn call(
         return Ok(u32::from(a.answer));
     }
     let unchecked = consistent.then(|| {
-        let mut copy =
-            Side { records: plain.records, store: plain.store.clone(), out: plain.out.clone() };
+        let mut copy = Side {
+            records: plain.records,
+            store: plain.store.clone(),
+            out: plain.out.clone(),
+            room: plain.room,
+        };
         let answer = plainly::<false>(work, part, &mut copy);
         (answer, copy)
     });
@@ -110,63 +124,37 @@ fn call(
 
 /// One call of the proved endpoint.
 fn ourly(work: Work, part: &[u8], side: &mut Side<Both>) -> u32 {
-    let ends = [part.len() as u32];
-    let parts = Parts { bytes: part, ends: &ends };
     let before = side.records;
-    let (mut short, mut long) = ([0xff], [u32::MAX]);
-    match work {
-        Work::Read => {}
-        Work::Acknowledge => {
-            ours::acknowledge(&before.sender, &mut side.records.sender, parts, &mut short)
-        }
-        Work::Receive => {
-            ours::receive(&before, &mut side.records, &mut side.store, parts, &mut short)
-        }
-        Work::Send => ours::send(
-            &before.sender,
-            &mut side.records.sender,
-            &mut side.store,
-            TICK,
-            parts,
-            &mut side.out,
-            &mut long,
-        ),
-        Work::Take => ours::take(
-            &before.receiver,
-            &mut side.records.receiver,
-            &side.store,
-            &mut side.out,
-            &mut long,
-        ),
-    }
-    if work == Work::Send || work == Work::Take {
-        long[0]
-    } else {
-        u32::from(short[0])
-    }
+    one(work, part, &mut side.store, &mut side.out[..side.room], |parts, lent| {
+        calls::ourly(work, &before, &mut side.records, parts, lent)
+    })
 }
 
 /// One call of the plain program.
 fn plainly<const CHECK: bool>(work: Work, part: &[u8], side: &mut Side<Start>) -> u32 {
-    let ends = [part.len() as u32];
-    let parts = Parts { bytes: part, ends: &ends };
     let Start { sender, receiver, .. } = &mut side.records;
+    one(work, part, &mut side.store, &mut side.out[..side.room], |parts, lent| {
+        calls::plainly::<CHECK>(work, sender, receiver, parts, lent)
+    })
+}
+
+/// Makes a call on one part, and gives its answer.
+fn one(
+    work: Work,
+    part: &[u8],
+    store: &mut [u8],
+    out: &mut [u8],
+    call: impl FnOnce(Parts, Lent),
+) -> u32 {
+    let ends = [part.len() as u32];
     let (mut short, mut long) = ([0xff], [u32::MAX]);
+    call(
+        Parts { bytes: part, ends: &ends },
+        Lent { store, out, short: &mut short, long: &mut long },
+    );
     match work {
-        Work::Read => {}
-        Work::Acknowledge => theirs::acknowledge::<CHECK>(sender, parts, &mut short),
-        Work::Receive => {
-            theirs::receive::<CHECK>(sender, receiver, &mut side.store, parts, &mut short)
-        }
-        Work::Send => {
-            theirs::send::<CHECK>(sender, &mut side.store, TICK, parts, &mut side.out, &mut long)
-        }
-        Work::Take => theirs::take::<CHECK>(receiver, &side.store, &mut side.out, &mut long),
-    }
-    if work == Work::Send || work == Work::Take {
-        long[0]
-    } else {
-        u32::from(short[0])
+        Work::Send | Work::Take => long[0],
+        Work::Read | Work::Acknowledge | Work::Receive => u32::from(short[0]),
     }
 }
 

@@ -237,7 +237,7 @@ fn arriving(rule: &mut Rule, r: &Receiver, numbers: u64, channels: u64) -> Value
     }
 }
 
-/// Payloads that change neither half, each one time in sixteen, and then and now an AckOfAcks.
+/// Payloads that change neither half, each one time in sixteen, and now and then an AckOfAcks.
 fn besides(rule: &mut Rule, mut values: Values, r: &Receiver) -> Values {
     if rule.one_in(16) {
         values.flags |= OVERHEADSIZE;

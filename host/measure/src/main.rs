@@ -1,6 +1,7 @@
 //! Measures the proved endpoint beside the plain program: compares every answer, then times both. `host/bench` builds and runs it.
 
 mod alike;
+mod calls;
 mod compare;
 mod made;
 mod ours;

@@ -126,6 +126,19 @@ pub struct Parts<'a> {
     pub ends: &'a [u32],
 }
 
+impl<'a> Parts<'a> {
+    /// The parts one by one.
+    #[inline]
+    pub fn iter(self) -> impl Iterator<Item = &'a [u8]> {
+        let mut from = 0;
+        self.ends.iter().map(move |&end| {
+            let part = &self.bytes[from..end as usize];
+            from = end as usize;
+            part
+        })
+    }
+}
+
 mod exported {
     use super::{Both, Receiver, Sender, Told};
 

@@ -10,7 +10,7 @@ use plain::store::STORE_LEN;
 use std::ops::Range;
 
 /// How many calls are made from one start, each on the record that the one before it left.
-pub const CALLS: usize = 8;
+const CALLS: usize = 8;
 /// How many starts are made for a row; they are used in turn.
 const STARTS: usize = 512;
 /// One datagram in so many is damaged.

@@ -15,10 +15,8 @@ pub fn read(d: &[u8]) -> Result<Reading, u8> {
 /// Takes datagrams into the sender's half alone.
 #[inline(never)]
 pub fn acknowledge<const CHECK: bool>(s: &mut Sender, parts: Parts, answers: &mut [u8]) {
-    let mut from = 0;
-    for (answer, &end) in answers.iter_mut().zip(parts.ends) {
-        *answer = s.acknowledge::<CHECK>(&parts.bytes[from..end as usize]);
-        from = end as usize;
+    for (answer, d) in answers.iter_mut().zip(parts.iter()) {
+        *answer = s.acknowledge::<CHECK>(d);
     }
 }
 
@@ -31,10 +29,8 @@ pub fn receive<const CHECK: bool>(
     parts: Parts,
     answers: &mut [u8],
 ) {
-    let mut from = 0;
-    for (answer, &end) in answers.iter_mut().zip(parts.ends) {
-        *answer = endpoint::receive::<CHECK>(s, r, store, &parts.bytes[from..end as usize]);
-        from = end as usize;
+    for (answer, d) in answers.iter_mut().zip(parts.iter()) {
+        *answer = endpoint::receive::<CHECK>(s, r, store, d);
     }
 }
 
@@ -48,10 +44,8 @@ pub fn send<const CHECK: bool>(
     out: &mut [u8],
     answers: &mut [u32],
 ) {
-    let mut from = 0;
-    for (answer, &end) in answers.iter_mut().zip(parts.ends) {
-        *answer = number(s.send::<CHECK>(store, tick, &parts.bytes[from..end as usize], out));
-        from = end as usize;
+    for (answer, block) in answers.iter_mut().zip(parts.iter()) {
+        *answer = number(s.send::<CHECK>(store, tick, block, out));
     }
 }
 

@@ -1,9 +1,9 @@
 //! Timed runs: the calls of a row by one side, in processor time.
 
-use crate::compare::{ROOM, TICK};
-use crate::ours::{self, Both};
+use crate::calls::{self, Lent};
+use crate::compare::ROOM;
+use crate::ours::Both;
 use crate::rows::{Row, Start, Work};
-use crate::theirs;
 use std::hint::black_box;
 
 /// Who makes the calls.
@@ -75,29 +75,13 @@ pub fn answers(room: &Room) -> (Vec<u8>, Vec<u32>) {
 fn ourly(row: &Row, room: &mut Room) {
     for (k, batch) in row.batches.iter().enumerate() {
         let before = &row.starts[batch.start].ours;
-        let after = &mut room.ours[k];
-        let parts = row.parts(batch);
-        let (short, long) =
-            (&mut room.short[batch.calls.clone()], &mut room.long[batch.calls.clone()]);
-        match row.work {
-            Work::Read => {
-                let mut from = 0;
-                for (answer, &end) in short.iter_mut().zip(parts.ends) {
-                    let told = ours::read(&parts.bytes[from..end as usize]);
-                    *answer = black_box(&told).answer;
-                    from = end as usize;
-                }
-            }
-            Work::Acknowledge => ours::acknowledge(&before.sender, &mut after.sender, parts, short),
-            Work::Receive => ours::receive(before, after, &mut room.store, parts, short),
-            Work::Send => {
-                let (store, out) = (&mut room.store, &mut room.out);
-                ours::send(&before.sender, &mut after.sender, store, TICK, parts, out, long)
-            }
-            Work::Take => {
-                ours::take(&before.receiver, &mut after.receiver, &room.store, &mut room.out, long)
-            }
-        }
+        let lent = Lent {
+            store: &mut room.store,
+            out: &mut room.out,
+            short: &mut room.short[batch.calls.clone()],
+            long: &mut room.long[batch.calls.clone()],
+        };
+        calls::ourly(row.work, before, &mut room.ours[k], row.parts(batch), lent);
     }
 }
 
@@ -105,36 +89,20 @@ fn plainly<const CHECK: bool>(row: &Row, room: &mut Room) {
     for (k, batch) in row.batches.iter().enumerate() {
         let start = &row.starts[batch.start];
         let (sender, receiver) = &mut room.plain[k];
-        let parts = row.parts(batch);
-        let (short, long) =
-            (&mut room.short[batch.calls.clone()], &mut room.long[batch.calls.clone()]);
+        let lent = Lent {
+            store: &mut room.store,
+            out: &mut room.out,
+            short: &mut room.short[batch.calls.clone()],
+            long: &mut room.long[batch.calls.clone()],
+        };
+        // As on the proved side, the records that the work concerns go in by value.
         match row.work {
-            Work::Read => {
-                let mut from = 0;
-                for (answer, &end) in short.iter_mut().zip(parts.ends) {
-                    let read = theirs::read(&parts.bytes[from..end as usize]);
-                    *answer = black_box(&read).err().unwrap_or(0);
-                    from = end as usize;
-                }
-            }
-            Work::Acknowledge => {
-                *sender = start.sender;
-                theirs::acknowledge::<CHECK>(sender, parts, short);
-            }
-            Work::Receive => {
-                (*sender, *receiver) = (start.sender, start.receiver);
-                theirs::receive::<CHECK>(sender, receiver, &mut room.store, parts, short);
-            }
-            Work::Send => {
-                *sender = start.sender;
-                let (store, out) = (&mut room.store, &mut room.out);
-                theirs::send::<CHECK>(sender, store, TICK, parts, out, long);
-            }
-            Work::Take => {
-                *receiver = start.receiver;
-                theirs::take::<CHECK>(receiver, &room.store, &mut room.out, long);
-            }
+            Work::Read => {}
+            Work::Acknowledge | Work::Send => *sender = start.sender,
+            Work::Receive => (*sender, *receiver) = (start.sender, start.receiver),
+            Work::Take => *receiver = start.receiver,
         }
+        calls::plainly::<CHECK>(row.work, sender, receiver, row.parts(batch), lent);
     }
 }
 
