@@ -12,6 +12,7 @@ ghost use Rattle.measured.specs.Steps.{writtenNumber, sendingOf, sendSte
 ghost use Rattle.measured.specs.Told.{noPacket, toldOf};
 use common::Written;
 use receiver::Receiver;
+use receiver::Taken;
 use sender::Sender;
 use sender::acknowledging;
 use sender::sending;
@@ -244,14 +245,17 @@ pub extern "C" fn measured_take(
         ≡ answered (eachTime (takeStep (now (store .entry)))) (eachTime (takeNumber (now (store .entry)))) (takingOf r (now (out .entry)))
         (now (answers .entry)) (length (now (answers .entry))) ⌝ }
 {
-    let mut q = r;
+    // What a call gives back is kept whole, which spares a copy of the record.
+    let mut x = Taken {
+        receiver: r,
+        written: Written::Refused(0),
+    };
     let mut turn: usize = 0;
     while turn < answers.len() {
-        let x = receiver::take(q, store, out);
+        x = receiver::take(x.receiver, store, out);
         let w = x.written;
         answers[turn] = number(w);
-        q = x.receiver;
         turn += 1;
     }
-    q
+    x.receiver
 }

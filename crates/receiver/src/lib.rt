@@ -69,12 +69,12 @@ pub struct Received {
     pub answer: u8,
 }
 
-// What taking a block answers, and the record after the call.
+// What taking a block answers, and the record after the call; it stands first, which spares copies of it.
 pub struct Taken {
-    // The refusal, or how many bytes were copied out.
-    pub written: Written,
     // The record after the call.
     pub receiver: Receiver,
+    // The refusal, or how many bytes were copied out.
+    pub written: Written,
 }
 
 // A fresh record, from the first number of each kind.
@@ -149,31 +149,31 @@ pub fn take(r: Receiver, store: &[u8], out: &mut [u8]) -> Taken
 {
     if !checking::sized(checking::consistent(r), store.len()) {
         return Taken {
-            written: Written::Refused(13),
             receiver: r,
+            written: Written::Refused(13),
         };
     }
     let at = window::channel_place(r.due.0);
     let h = r.holds[at];
     if h.held != 1 {
         return Taken {
-            written: Written::Refused(11),
             receiver: r,
+            written: Written::Refused(11),
         };
     }
     let n = h.length as usize;
     if out.len() < n {
         return Taken {
-            written: Written::Refused(14),
             receiver: r,
+            written: Written::Refused(14),
         };
     }
     let from = at * PLACE;
     let k = common::lay(out, 0, &store[from..from + n]);
     let q = freed(r);
     Taken {
-        written: Written::Wrote(k),
         receiver: q,
+        written: Written::Wrote(k),
     }
 }
 

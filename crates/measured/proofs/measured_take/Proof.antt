@@ -12,12 +12,12 @@ use Rattle.measured.proofs.measured_take.Statement.{statement}
 use Rattle.measured.proofs.measured_take.Tie as tie
 
 abbrev Inv-loop : tie.InvT-loop
-Inv-loop store out₀ answers₀ q₀ i₀ out answers q i =
+Inv-loop store out₀ answers₀ x₀ i₀ out answers x i =
     (i ≤ length answers₀) × (length out ≡ length out₀)
-    × Going (eachTime (takeStep store)) (eachTime (takeNumber store)) (takingOf q₀ out₀) (takingOf q out) answers₀ answers i
+    × Going (eachTime (takeStep store)) (eachTime (takeNumber store)) (takingOf (x₀ .receiver) out₀) (takingOf (x .receiver) out) answers₀ answers i
 
 abbrev μ-loop : tie.MeasureT-loop
-μ-loop store out₀ answers₀ q₀ i₀ out answers q i = length answers₀ - i
+μ-loop store out₀ answers₀ x₀ i₀ out answers x i = length answers₀ - i
 
 pub measured-take-spec : {M : Type 1} → statement M
 measured-take-spec =
@@ -32,12 +32,11 @@ measured-take-spec =
     (λ c. search needs)
     (λ c. search needs)
     (λ c. search needs)
-    (λ c. let a = c .before .before .before .before .before .before .before .before .before .before .before .args in
-    let l = c .before .before .before .before .before .before .before .loop in
-    let x = c .before .before .before .before .take .ensures in
-    (search needs, search needs, going-more _ _ _ _ _ _ _ _ _ (l .inv .2) (take-steps _ _ _ (l .out) _ (l .turn) (x .1 .0) (x .1 .1)) (c .before .number .ensures ∙ ap writtenNumber (x .0))))
+    (λ c. let l = c .before .before .before .before .before .before .loop in
+    let x = c .before .before .before .take .ensures in
+    (search needs, search needs, going-more _ _ _ _ _ _ _ _ _ (l .inv .2) (take-steps _ _ _ (l .out) _ (l .turn) (x .1 .0) (x .1 .1)) (c .number .ensures ∙ ap writtenNumber (x .0))))
     (λ c. search needs)
     (λ c. search needs)
-    (λ c. let l = c .before .loop in
-    let e : l .turn ≡ length (c .before .before .before .before .before .args .answers .now) = omega arith in
+    (λ c. let l = c .before .before .loop in
+    let e : l .turn ≡ length (c .before .before .before .before .before .before .args .answers .now) = omega arith in
     (going-state _ (l .inv .2) e, going-answers _ (l .inv .2) e)))
