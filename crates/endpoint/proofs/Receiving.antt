@@ -14,19 +14,19 @@ use Rattle.wire.specs.declared.Reading.the-variants.{Refused, Dummy, Read}
 use Rattle.wire.specs.Flags.{either, ackIn, vectorIn}
 use Rattle.wire.specs.Read.{readOf}
 use Rattle.receiver.specs.declared.Receiver.{Receiver}
-use Rattle.receiver.specs.declared.packet.Arrived.{Arrived}
+use Rattle.arriving.specs.declared.packet.Arrived.{Arrived}
 use Rattle.receiver.specs.Consistent as receiverTests
 use Rattle.receiver.specs.Receive as receiver
 use Rattle.receiver.specs.Record as receiving
-use Rattle.receiver.specs.Judge.{numberOf, judgedOf}
-use Rattle.receiver.specs.Judged.{judged-answer}
+use Rattle.arriving.specs.Judge.{numberOf, judgedOf}
+use Rattle.arriving.specs.Judged.{judged-answer}
 use Rattle.sender.specs.declared.Sender.{Sender}
-use Rattle.sender.specs.declared.acknowledging.Judged.{Judged}
+use Rattle.acknowledging.specs.declared.Judged.{Judged}
 use Rattle.sender.specs.Consistent as senderTests
 use Rattle.sender.specs.Acknowledge.{acknowledging, Told, silent, toldAnswer, toldOf, toldBy}
-use Rattle.sender.specs.Chosen.{chosenBy}
+use Rattle.turning.specs.Chosen.{chosenBy}
 use Rattle.sender.specs.Turn.{turnedOf}
-use Rattle.sender.specs.Walk.{appliedOf}
+use Rattle.acknowledging.specs.Walk.{appliedOf}
 use Rattle.endpoint.specs.Receive.{Halves, halves, soundOf, packetAnswer, packetOf, readAnswer, readInto, receiveAnswer, receiveOf}
 
 -- an answer, both records and a store that are what receiving answers and leaves

@@ -5,11 +5,9 @@ ghost use mathlib.Core.Path.{_≡_};
 ghost use Rattle.wire.specs.Flags.{either, ackIn, vectorIn};
 ghost use Rattle.endpoint.specs.Open.{outOfRange, openedOf};
 ghost use Rattle.endpoint.specs.Receive.{halves, receiveAnswer, receiveOf};
+use arriving::packet;
 use receiver::Receiver;
-use receiver::packet;
 use sender::Sender;
-use sender::acknowledging;
-use sender::turning;
 use wire::Reading;
 use wire::bits;
 

@@ -49,7 +49,7 @@ pub(crate) fn opens(name: &[u8], firstdata: u32, firstchannel: u32, timeout: u32
 // Sends a block of one byte.
 pub(crate) fn sends(p: Pair, sent: &mut [u8]) -> Pair {
     let mut out = [0u8; 64];
-    let got = sender::sending::send(p.sender, sent, 0, b"a", &mut out);
+    let got = sending::send(p.sender, sent, 0, b"a", &mut out);
     let s = got.sender;
     let r = p.receiver;
     Pair {

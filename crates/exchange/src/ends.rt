@@ -4,8 +4,6 @@ use crate::channel;
 use common::Written;
 use receiver::Receiver;
 use sender::Sender;
-use sender::sending;
-use sender::sweeping;
 
 // The two records of an endpoint, and its counts.
 pub struct End {
@@ -79,7 +77,7 @@ fn receives(e: End, store: &mut [u8], channel: &[u8], at: usize) -> End {
 // Takes the block due, if it is held, and compares it with the other end's next.
 pub(crate) fn takes(e: End, store: &[u8]) -> End {
     let mut block = [0u8; 64];
-    let got = receiver::take(e.receiver, store, &mut block);
+    let got = taking::take(e.receiver, store, &mut block);
     let r = got.receiver;
     let mut q = e;
     q.receiver = r;
@@ -149,7 +147,7 @@ fn new(e: End, sent: &mut [u8], channel: &mut [u8], at: usize, tick: u32) -> End
 // Writes an acknowledgement, if there is one to write.
 fn acknowledges(e: End, channel: &mut [u8], at: usize, tick: u32) -> End {
     let mut datagram = [0u8; 64];
-    let Written::Wrote(n) = receiver::acknowledge(e.receiver, tick, 0, &mut datagram) else {
+    let Written::Wrote(n) = reporting::acknowledge(e.receiver, tick, 0, &mut datagram) else {
         return e;
     };
     puts(e, channel, at, &datagram, n)

@@ -12,10 +12,8 @@ ghost use Rattle.measured.specs.Steps.{writtenNumber, sendingOf, sendSte
 ghost use Rattle.measured.specs.Told.{noPacket, toldOf};
 use common::Written;
 use receiver::Receiver;
-use receiver::Taken;
 use sender::Sender;
-use sender::acknowledging;
-use sender::sending;
+use taking::Taken;
 use wire::Ack;
 use wire::Delay;
 use wire::Packet;
@@ -252,7 +250,7 @@ pub extern "C" fn measured_take(
     };
     let mut turn: usize = 0;
     while turn < answers.len() {
-        x = receiver::take(x.receiver, store, out);
+        x = taking::take(x.receiver, store, out);
         let w = x.written;
         answers[turn] = number(w);
         turn += 1;

@@ -60,7 +60,7 @@ fn handed(first: u8, n: usize) {
 // Takes the block due, if it is held.
 fn takes(r: Run, store: &[u8]) -> Run {
     let mut block = [0u8; 64];
-    let got = receiver::take(r.receiver, store, &mut block);
+    let got = taking::take(r.receiver, store, &mut block);
     let q = got.receiver;
     let mut next = r;
     next.receiver = q;

@@ -16,9 +16,6 @@ pub mod StaysConsistent
 pub mod AnyOrder
 pub mod CanBeMet
 pub mod Checking
-pub mod Marks
-pub mod Judge
-pub mod Judged
 pub mod AcknowledgeLaws
 pub mod Facts
 pub mod Blocks

@@ -119,7 +119,7 @@ pub fn consistent(r: Receiver) -> bool
 }
 
 // Is a record sound, once it is known whether it is consistent? The lent store must be of the right size.
-pub(crate) fn sized(consistent: bool, size: usize) -> bool
+pub fn sized(consistent: bool, size: usize) -> bool
     ensures { λ b. ⌜ b ≡ soundBy consistent size ⌝ }
 {
     if !consistent {

@@ -65,7 +65,7 @@ fn lent(name: &[u8], r: Receiver, store: &mut [u8], written: &[u8], k: usize) ->
     if written.len() < k {
         return r;
     }
-    let got = receiver::receive(r, store, &written[..k]);
+    let got = arriving::receive(r, store, &written[..k]);
     let q = got.receiver;
     io::write_all(1, name);
     shown(got.answer, q);
@@ -143,7 +143,7 @@ fn answered(w: Written, out: &[u8]) {
 
 // A take into this buffer.
 fn taken(name: &[u8], r: Receiver, store: &[u8], out: &mut [u8]) -> Receiver {
-    let got = receiver::take(r, store, out);
+    let got = taking::take(r, store, out);
     let q = got.receiver;
     let w = got.written;
     io::write_all(1, name);
@@ -163,7 +163,7 @@ pub(crate) fn takes(name: &[u8], r: Receiver, store: &[u8], room: usize) -> Rece
 
 // An acknowledgement into this buffer.
 fn acknowledged(name: &[u8], r: Receiver, out: &mut [u8]) {
-    let w = receiver::acknowledge(r, 0x1234567, 7, out);
+    let w = reporting::acknowledge(r, 0x1234567, 7, out);
     io::write_all(1, name);
     answered(w, out);
     io::write_all(1, b"\n");

@@ -6,8 +6,6 @@ ghost use Rattle.replayer.specs.Does.{Does};
 use common::Written;
 use receiver::Receiver;
 use sender::Sender;
-use sender::sending;
-use sender::sweeping;
 
 // What a call answers, how many it found lost, and both records after it.
 pub struct Called {
@@ -79,7 +77,7 @@ pub(crate) fn call(
         };
     }
     if kind == trace::TAKE {
-        let x = receiver::take(r, store, &mut out);
+        let x = taking::take(r, store, &mut out);
         let receiver = x.receiver;
         let written = x.written;
         return Called {
@@ -99,7 +97,7 @@ pub(crate) fn call(
             receiver: r,
         };
     }
-    let written = receiver::acknowledge(r, tick, 0, &mut out);
+    let written = reporting::acknowledge(r, tick, 0, &mut out);
     Called {
         answer: number(written),
         lost: 0,

@@ -1,13 +1,5 @@
 -- Laws that the functions' proofs cite.
-mod Passing
-mod Marks
-mod Judged
-mod Placed
-mod Turned
-mod Walking
-mod Naming
-mod Told
-mod Acked
-mod Sent
-mod Resent
-mod Swept
+pub mod Passing
+pub mod Marks
+pub mod Judged
+pub mod Placed

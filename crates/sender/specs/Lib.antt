@@ -15,10 +15,6 @@ pub mod LostAreCounted
 pub mod AnyOrder
 pub mod Outset
 pub mod Bounds
-pub mod Chosen
-pub mod Walk
-pub mod Lowest
-pub mod FlagsLost
 pub mod PlaceTests
 pub mod Facts
 pub mod TurnedWants
@@ -27,4 +23,3 @@ pub mod TurnedFacts
 pub mod SentFacts
 pub mod SendReady
 pub mod Tells
-pub mod Turnable

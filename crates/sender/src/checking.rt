@@ -44,7 +44,7 @@ fn timeout_fits(timeout: u32) -> bool
 }
 
 // Does low pass a number in this state?
-pub(crate) fn passes(state: u8) -> bool
+pub fn passes(state: u8) -> bool
     ensures { λ r. ⌜ r ≡ cond (eqb state 2) true (eqb state 3) ⌝ }
 {
     if state == crate::RECEIVED {

@@ -1,13 +1,10 @@
-// The sender's half of an endpoint: which data numbers are out, and which blocks they carry.
+// The sender's half of an endpoint: which data numbers are out, and which blocks they carry. Its calls stand in crates of their own:
+// `acknowledging`, `sweeping` and `sending`.
 // A record goes in by value and comes back by value; sent blocks stand in a store that the host lends, 1,225 bytes to a place.
 ghost use mathlib.Core.Path.{_≡_};
 ghost use Rattle.sender.specs.Fresh.{freshOf};
 
-pub mod acknowledging;
 pub mod checking;
-pub mod sending;
-pub mod sweeping;
-pub mod turning;
 
 use numbers::ChannelNumber;
 use numbers::DataNumber;

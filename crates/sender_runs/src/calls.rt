@@ -2,9 +2,6 @@
 ghost use Prim.Native.Nat.{_≤_};
 use common::Written;
 use sender::Sender;
-use sender::acknowledging;
-use sender::sending;
-use sender::sweeping;
 use wire::Ack;
 use wire::Delay;
 use wire::Values;

@@ -2,7 +2,7 @@
 use mathlib.Core.Path.{sym, _∙_}
 use native.Mathlib.Omega.{arith}
 use borrow.Author.Tests.{not-true, not-false}
-use Rattle.sender.specs.Turnable.{turnable}
+use Rattle.turning.specs.Turnable.{turnable}
 use Rattle.endpoint.proofs.Receiving.{wrong-size, sender-unfit, receiver-unfit, read-refused, read-dummy, told-refused, number-refused, accepted-silent, accepted-told}
 use borrow.Author.Needs.{needs}
 use Rattle.endpoint.proofs.receive.Statement.{statement}

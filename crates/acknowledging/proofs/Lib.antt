@@ -1,0 +1,5 @@
+-- Laws that the functions' proofs cite.
+mod Walking
+mod Naming
+mod Acked
+mod Told

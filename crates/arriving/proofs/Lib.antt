@@ -1,0 +1,6 @@
+-- Laws that the functions' proofs cite.
+mod Fields
+mod Judging
+mod Told
+mod Applying
+mod Receiving

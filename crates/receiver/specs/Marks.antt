@@ -1,7 +1,0 @@
--- The window of marks as the code hands it on by itself.
-use Prim.Native.Nat.{ℕ}
-use Rattle.window.specs.Window.{Win}
-use Rattle.receiver.specs.declared.marks.Marks.{Marks}
-
-abbrev pub winOf : Marks → Win ℕ
-winOf m = record { base = m .base; places = m .places }

@@ -1,0 +1,157 @@
+-- New block: a law for each way out.
+use Prim.Native.Nat.{ℕ, _+_, _*_, _%_, _≤_, _<_}
+use mathlib.Core.Bool.{Bool, true, false, cond, not}
+use mathlib.Core.List.{List, [], _∷_}
+use mathlib.Core.Path.{_≡_, refl, sym, _∙_, ap}
+use native.Mathlib.Omega.{arith}
+use lib.ListN.{length}
+use lib.Dec.{eqb, leb, ltb}
+use borrow.Author.Tests.{lt-ltb, le-ltb, eqb-true, eqb-false, eq-eqb, ne-eqb}
+use Rattle.common.specs.declared.Written.{Written}
+use Rattle.common.specs.declared.Written.the-variants.{Refused, Wrote}
+use Rattle.common.specs.Answer.{writtenOf, leftOf, numberOf, written-refused, left-refused, roomAnswer}
+use Rattle.common.specs.Choice.{unless}
+use Rattle.common.specs.Order.{first-here, first-skip}
+use Rattle.common.specs.Put.{putOf}
+use Rattle.sender.specs.declared.Sender.{Sender}
+use Rattle.sender.specs.Record.{highest, State}
+use Rattle.sender.specs.Consistent.{consistentOf, soundOf}
+use Rattle.sender.specs.Send.{sentOf, newAnswer, newDatagram, newOf}
+use Rattle.common.specs.EveryLaws.{every-at}
+use Rattle.sender.proofs.Passing.{Range, consistent-passes, range-facts, unsized, sound-as}
+
+-- what a sound record tells
+pub record Sound (s : Sender) (size : ℕ) : Type 0 where
+  pub consistent : consistentOf 32 32 s ≡ true
+  pub numbers : Range (s .firstdata .0) (s .low .0) (s .next .0)
+  pub channels : Range (s .firstchannel .0) (s .channellow .0) (s .channelnext .0)
+  pub store : size ≡ 39200
+
+pub sound-facts : (s : Sender) (size : ℕ) → soundOf 32 32 s size ≡ true → Sound s size
+unfolding soundOf
+sound-facts s size h =
+    let c : consistentOf 32 32 s ≡ true = every-at (consistentOf 32 32 s ∷ eqb size 39200 ∷ []) h 0 in
+    let p = consistent-passes s c in
+    record {
+      consistent = c;
+      numbers = range-facts _ _ _ (p .range);
+      channels = range-facts _ _ _ (p .channels);
+      store = eqb-true _ _ (every-at (consistentOf 32 32 s ∷ eqb size 39200 ∷ []) h 1);
+    }
+
+-- what an answer that was written tells of its number
+pub refused-is : (n a : ℕ) (b : List ℕ) → Refused n ≡ writtenOf a b → (n ≡ a) × (n ≡ 0 → ⊥)
+unfolding writtenOf
+refused-is n a b e = go (eqb a 0) refl e
+  where
+    go : (t : Bool) → eqb a 0 ≡ t → Refused n ≡ cond t (Wrote (length b)) (Refused a) → (n ≡ a) × (n ≡ 0 → ⊥)
+    go true t w = absurd (let z : _≡_ {A = ℕ} 0 1 = cc in omega arith)
+    go false t w = let q : n ≡ a = ap numberOf w in (q, λ z. eqb-false a 0 t (sym q ∙ z))
+
+pub wrote-is : (k a : ℕ) (b : List ℕ) → Wrote k ≡ writtenOf a b → a ≡ 0
+unfolding writtenOf
+wrote-is k a b e = go (eqb a 0) refl e
+  where
+    go : (t : Bool) → eqb a 0 ≡ t → Wrote k ≡ cond t (Wrote (length b)) (Refused a) → a ≡ 0
+    go true t w = eqb-true a 0 t
+    go false t w = absurd (let z : _≡_ {A = ℕ} 0 1 = cc in omega arith)
+
+-- what a new block's call leaves: the answer, the record, the store and the buffer
+pub record Left (s : State) (tick : ℕ) (block out : List ℕ) (w : Written) (q : Sender) (store left : List ℕ) : Type 0 where
+  pub written : w ≡ writtenOf (newAnswer 32 32 s block (length out)) (newDatagram s block)
+  pub sender : q ≡ newOf 32 32 s tick block (length out) .sender
+  pub kept : store ≡ newOf 32 32 s tick block (length out) .store
+  pub bytes : left ≡ leftOf (newAnswer 32 32 s block (length out)) (newDatagram s block) out
+
+record-refused : (s : State) (tick : ℕ) (block : List ℕ) (room n : ℕ) → n ≡ newAnswer 32 32 s block room → (n ≡ 0 → ⊥) → s ≡ newOf 32 32 s tick block room
+unfolding newOf
+record-refused s tick block room n e h = unless _ _ _ _ (ne-eqb (newAnswer 32 32 s block room) 0 (λ z. h (e ∙ z))) refl
+
+refuses : (s : State) (tick : ℕ) (block out : List ℕ) (n : ℕ) → n ≡ newAnswer 32 32 s block (length out) → (n ≡ 0 → ⊥)
+    → Left s tick block out (Refused n) (s .sender) (s .store) out
+refuses s tick block out n e h =
+    let r = record-refused s tick block (length out) n e h in
+    record {
+      written = written-refused n _ _ e h;
+      sender = ap (λ (x : State). x .sender) r;
+      kept = ap (λ (x : State). x .store) r;
+      bytes = left-refused n _ _ _ e h;
+    }
+
+abbrev usedUp : State → Bool
+usedUp s = cond (ltb highest (s .sender .next .0)) true (ltb highest (s .sender .channelnext .0))
+
+abbrev isFull : State → Bool
+isFull s = cond (leb (s .sender .low .0 + 32) (s .sender .next .0)) true (leb (s .sender .channellow .0 + 32) (s .sender .channelnext .0))
+
+new-unsound : (s : State) (tick : ℕ) (block out : List ℕ) → soundOf 32 32 (s .sender) (length (s .store)) ≡ false → Left s tick block out (Refused 13) (s .sender) (s .store) out
+unfolding newAnswer
+new-unsound s tick block out h = refuses s tick block out 13 (first-here _ _ _ (ap not h)) (λ z. omega arith)
+
+pub new-unsized : (s : State) (tick : ℕ) (block out : List ℕ) → (length (s .store) ≡ 39200 → ⊥) → Left s tick block out (Refused 13) (s .sender) (s .store) out
+new-unsized s tick block out h = new-unsound s tick block out (sym (unsized _ _ h))
+
+pub new-unfit : (s : State) (tick : ℕ) (block out : List ℕ) (r : Bool) → length (s .store) ≡ 39200 → r ≡ consistentOf 32 32 (s .sender) → r ≡ false
+    → Left s tick block out (Refused 13) (s .sender) (s .store) out
+new-unfit s tick block out r h e t = new-unsound s tick block out (sym (sound-as _ _ r h e) ∙ t)
+
+pub new-long : (s : State) (tick : ℕ) (block out : List ℕ) → soundOf 32 32 (s .sender) (length (s .store)) ≡ true → 1223 < length block
+    → Left s tick block out (Refused 10) (s .sender) (s .store) out
+unfolding newAnswer
+new-long s tick block out h l = refuses s tick block out 10 (first-here _ _ _ (lt-ltb _ _ l) ∙ first-skip _ _ _ (ap not h)) (λ z. omega arith)
+
+pub new-used : (s : State) (tick : ℕ) (block out : List ℕ) (r : Bool) → soundOf 32 32 (s .sender) (length (s .store)) ≡ true → length block ≤ 1223
+    → r ≡ usedUp s → r ≡ true → Left s tick block out (Refused 12) (s .sender) (s .store) out
+unfolding newAnswer
+new-used s tick block out r h l e t =
+    refuses s tick block out 12 (first-here _ _ _ (sym e ∙ t) ∙ first-skip _ _ _ (le-ltb _ _ l) ∙ first-skip _ _ _ (ap not h)) (λ z. omega arith)
+
+pub new-full : (s : State) (tick : ℕ) (block out : List ℕ) (r f : Bool) → soundOf 32 32 (s .sender) (length (s .store)) ≡ true → length block ≤ 1223
+    → r ≡ usedUp s → r ≡ false → f ≡ isFull s → f ≡ true → Left s tick block out (Refused 9) (s .sender) (s .store) out
+unfolding newAnswer
+new-full s tick block out r f h l e t g u =
+    refuses s tick block out 9 (first-here _ _ _ (sym g ∙ u) ∙ first-skip _ _ _ (sym e ∙ t) ∙ first-skip _ _ _ (le-ltb _ _ l) ∙ first-skip _ _ _ (ap not h)) (λ z. omega arith)
+
+-- past these, the room decides
+pub record Open (s : State) (block : List ℕ) : Type 0 where
+  pub sound : soundOf 32 32 (s .sender) (length (s .store)) ≡ true
+  pub short : length block ≤ 1223
+  pub fresh : usedUp s ≡ false
+  pub free : isFull s ≡ false
+
+open-room : (s : State) (block : List ℕ) (room : ℕ) → Open s block → roomAnswer (newDatagram s block) room ≡ newAnswer 32 32 s block room
+unfolding newAnswer roomAnswer newDatagram
+open-room s block room o =
+    first-skip _ _ _ (o .free) ∙ first-skip _ _ _ (o .fresh) ∙ first-skip _ _ _ (le-ltb _ _ (o .short)) ∙ first-skip _ _ _ (ap not (o .sound))
+
+pub new-roomless : (s : State) (tick : ℕ) (block out left : List ℕ) (w : Written) (n : ℕ) → Open s block → w ≡ Refused n
+    → w ≡ writtenOf (roomAnswer (newDatagram s block) (length out)) (newDatagram s block)
+    → left ≡ leftOf (roomAnswer (newDatagram s block) (length out)) (newDatagram s block) out → Left s tick block out (Refused n) (s .sender) (s .store) left
+new-roomless s tick block out left w n o is said g =
+    let a = open-room s block (length out) o in
+    let e : Refused n ≡ writtenOf (roomAnswer (newDatagram s block) (length out)) (newDatagram s block) = sym is ∙ said in
+    let (i, h) = refused-is n _ _ e in
+    let r = record-refused s tick block (length out) n (i ∙ a) h in
+    record {
+      written = e ∙ ap (λ (m : ℕ). writtenOf m (newDatagram s block)) a;
+      sender = ap (λ (x : State). x .sender) r;
+      kept = ap (λ (x : State). x .store) r;
+      bytes = g ∙ ap (λ (m : ℕ). leftOf m (newDatagram s block) out) a;
+    }
+
+pub new-sent : (s : State) (tick : ℕ) (block out left store : List ℕ) (w : Written) (k at : ℕ) (q : Sender) → Open s block → w ≡ Wrote k
+    → w ≡ writtenOf (roomAnswer (newDatagram s block) (length out)) (newDatagram s block)
+    → left ≡ leftOf (roomAnswer (newDatagram s block) (length out)) (newDatagram s block) out
+    → at ≡ s .sender .channelnext .0 % 32 → store ≡ putOf (s .store) (at * 1225) block
+    → q ≡ sentOf 32 (s .sender) tick (s .sender .channelnext .0) (length block) (s .sender .channelnext .0 + 1) → Left s tick block out (Wrote k) q store left
+unfolding newOf
+new-sent s tick block out left store w k at q o is said g p b r =
+    let a = open-room s block (length out) o in
+    let e : Wrote k ≡ writtenOf (roomAnswer (newDatagram s block) (length out)) (newDatagram s block) = sym is ∙ said in
+    let z : eqb (newAnswer 32 32 s block (length out)) 0 ≡ true = eq-eqb _ _ (sym a ∙ wrote-is k _ _ e) in
+    record {
+      written = e ∙ ap (λ (m : ℕ). writtenOf m (newDatagram s block)) a;
+      sender = rw z r;
+      kept = rw z (b ∙ ap (λ (m : ℕ). putOf (s .store) (m * 1225) block) p);
+      bytes = g ∙ ap (λ (m : ℕ). leftOf m (newDatagram s block) out) a;
+    }

@@ -1,0 +1,201 @@
+-- Each way out of the resend is a law of Resent; on the way the size and consistency make a sound state, and the tests leave only the room.
+use Prim.Native.Nat.{ℕ, _+_, _*_, _%_, _≤_}
+use mathlib.Core.Path.{_≡_, sym, _∙_}
+use mathlib.Core.Bool.{true}
+use mathlib.Core.Option.{some}
+use native.Mathlib.Omega.{arith}
+use lib.ListN.{length}
+use borrow.Author.Tests.{not-true, not-false}
+use Rattle.sender.specs.Record.{State, state, blockAt}
+use Rattle.sender.specs.Consistent.{soundOf}
+use Rattle.sender.specs.Send.{lowestWaiting}
+use Rattle.sender.proofs.Passing.{sound-as}
+use Rattle.sending.proofs.NewBlock.{sound-facts}
+use Rattle.sending.proofs.OldBlock.{lowest-some, block-short, part-short, datagram-is, Ready}
+use Rattle.sending.proofs.OldBlock.{resend-unsized, resend-unfit, resend-none, resend-used, resend-full, resend-roomless, resend-sent}
+use borrow.Author.Needs.{needs}
+use Rattle.sending.proofs.resend.Statement.{statement}
+use Rattle.sending.proofs.resend.Tie as tie
+
+-- the record and the store at the call
+abbrev entry : tie.Start → State
+entry b = state (b .args .s) (b .args .store .now)
+
+abbrev start : tie.Else2 → tie.Start
+start e = e .before .before .before .before .before
+
+-- past the first two tests they are sound
+sound-here : (e : tie.Else2) → soundOf 32 32 (start e .args .s) (length (start e .args .store .now)) ≡ true
+sound-here e = sym (sound-as _ _ _ (e .before .before .if1 .left) (e .before .consistent .ensures)) ∙ not-false _ (e .if2 .left)
+
+-- the block that waits
+abbrev from : tie.After-known-told → tie.Start
+from e = start (e .before .before .before .before)
+
+abbrev channel : tie.After-known-told → ℕ
+channel e = e .before .c .given .0 .0
+
+waits-here : (e : tie.After-known-told) → lowestWaiting 32 (from e .args .s) ≡ some (channel e)
+waits-here e = lowest-some _ _ (sym (e .before .c .given .1) ∙ e .before .before .before .lowest-waiting .ensures)
+
+short-here : (e : tie.After-known-told) → blockAt 32 (from e .args .s) (channel e) .length ≤ 1223
+short-here e = block-short _ _ _ (sound-here (e .before .before .before .before)) (waits-here e)
+
+-- past the first five tests only the room is left to judge
+ready-here : (e : tie.Else4) → Ready (entry (from (e .before .before))) (channel (e .before .before))
+ready-here e =
+    record {
+      sound = sound-here (e .before .before .before .before .before .before);
+      waits = waits-here (e .before .before);
+      fresh = e .before .if3 .left;
+      free = e .if4 .left;
+    }
+
+returns : tie.Need-returns
+returns c =
+    let b = c .before .before .before in
+    let l = resend-unsized (entry b) (b .args .tick) (b .args .out .now) (c .if1 .taken) in
+    (l .written, (l .sender, l .bytes))
+
+consistent-requires : tie.Need-consistent-requires
+consistent-requires c κs = search needs
+
+returns-2 : tie.Need-returns-2
+returns-2 c =
+    let b = c .before .before .before .before .before in
+    let l = resend-unfit (entry b) (b .args .tick) (b .args .out .now) _ (c .before .before .if1 .left) (c .before .consistent .ensures) (not-true _ (c .if2 .taken)) in
+    (l .written, (l .sender, l .bytes))
+
+lowest-waiting-requires : tie.Need-lowest-waiting-requires
+lowest-waiting-requires c κs = search needs
+
+enum-known-c : tie.Need-enum-known-c
+enum-known-c c = search needs
+
+enum-told : tie.Need-enum-told
+enum-told c = search needs
+
+returns-3 : tie.Need-returns-3
+returns-3 c =
+    let e = c .before .before .before in
+    let b = start e in
+    let l = resend-none (entry b) (b .args .tick) (b .args .out .now) (sound-here e) (sym (c .enum-told .given .1) ∙ c .before .before .lowest-waiting .ensures) in
+    (l .written, (l .sender, l .bytes))
+
+returns-4 : tie.Need-returns-4
+returns-4 c =
+    let e = c .before in
+    let b = from e in
+    let l = resend-used (entry b) (b .args .tick) (b .args .out .now) (channel e) (sound-here (e .before .before .before .before)) (waits-here e) (c .if3 .taken) in
+    (l .written, (l .sender, l .bytes))
+
+add-if4 : tie.Need-add-if4
+add-if4 c =
+    let f = sound-facts _ _ (sound-here (c .before .before .before .before .before)) in
+    omega (arith, f .numbers .forth, f .numbers .nextFits)
+
+returns-5 : tie.Need-returns-5
+returns-5 c =
+    let e = c .before .before in
+    let b = from e in
+    let l = resend-full (entry b) (b .args .tick) (b .args .out .now) (channel e) (sound-here (e .before .before .before .before)) (waits-here e) (c .before .if3 .left) (c .if4 .taken) in
+    (l .written, (l .sender, l .bytes))
+
+mul-b : tie.Need-mul-b
+mul-b c = search needs
+
+array-copy-out-b : tie.Need-array-copy-out-b
+array-copy-out-b c = search needs
+
+mul-start : tie.Need-mul-start
+mul-start c = search needs
+
+cast-put-data : tie.Need-cast-put-data
+cast-put-data c = let h = short-here (c .before .before .before .before) in omega arith
+
+add-put-data : tie.Need-add-put-data
+add-put-data c = let h = short-here (c .before .before .before .before) in omega arith
+
+sub-put-data : tie.Need-sub-put-data
+sub-put-data c = search needs
+
+part-put-data-start : tie.Need-part-put-data-start
+part-put-data-start c = search needs
+
+part-put-data-end : tie.Need-part-put-data-end
+part-put-data-end c =
+    let e = c .before .before .before .before in
+    let b = from e in
+    let h = short-here e in
+    let f = sound-facts _ _ (sound-here (e .before .before .before .before)) in
+    let l : channel e % 32 * 1225 + blockAt 32 (b .args .s) (channel e) .length ≤ length (b .args .store .now) = omega (arith, f .store) in
+    search (needs, l)
+
+put-data-requires : tie.Need-put-data-requires
+put-data-requires c κs = part-short _ _ _ (short-here (c .before .before .before .before .before .before))
+
+enum-known-n : tie.Need-enum-known-n
+enum-known-n c = search needs
+
+enum-known-k : tie.Need-enum-known-k
+enum-known-k c = search needs
+
+sent-requires : tie.Need-sent-requires
+sent-requires c κs = search needs
+
+same-length : tie.Need-same-length
+same-length c = search needs
+
+returns-6 : tie.Need-returns-6
+returns-6 c =
+    let w = c .before .before .before .before .before in
+    let o = w .before .before .before .before .before in
+    let e = o .before .before in
+    let b = from e in
+    let l = resend-roomless (entry b) (b .args .tick) (b .args .out .now) (channel e) (ready-here o) _ (datagram-is (entry b) (channel e) (waits-here e)) _ _ _
+    (c .before .n .given .1) (w .put-data .ensures .0) (w .put-data .ensures .1) in
+    (l .written, (l .sender, l .bytes))
+
+same-length-2 : tie.Need-same-length-2
+same-length-2 c = search needs
+
+returns-7 : tie.Need-returns-7
+returns-7 c =
+    let w = c .before .before .before .before .before .before in
+    let o = w .before .before .before .before .before in
+    let e = o .before .before in
+    let b = from e in
+    let l = resend-sent (entry b) (b .args .tick) (b .args .out .now) (channel e) (ready-here o) _ (datagram-is (entry b) (channel e) (waits-here e)) _ _ _ _
+    (c .before .before .k .given .1) (w .put-data .ensures .0) (w .put-data .ensures .1) (c .sent .ensures) in
+    (l .written, (l .sender, l .bytes))
+
+pub resend-spec : {M : Type 1} → statement M
+resend-spec =
+    tie.close
+    (tie.spec
+    returns
+    consistent-requires
+    returns-2
+    lowest-waiting-requires
+    enum-known-c
+    enum-told
+    returns-3
+    returns-4
+    add-if4
+    returns-5
+    mul-b
+    array-copy-out-b
+    mul-start
+    cast-put-data
+    add-put-data
+    sub-put-data
+    part-put-data-start
+    part-put-data-end
+    put-data-requires
+    enum-known-n
+    enum-known-k
+    sent-requires
+    same-length
+    returns-6
+    same-length-2
+    returns-7)
