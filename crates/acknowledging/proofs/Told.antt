@@ -30,7 +30,7 @@ use Rattle.sender.specs.Consistent.{consistentOf}
 use Rattle.turning.specs.Chosen.{chosenBy}
 use Rattle.sender.specs.Acknowledge.{Told, silent, upTo, listed, acknowledging, acknowledgedOf, namesUnsent, toldAnswer, toldNames, toldOf, toldBy}
 use Rattle.acknowledging.specs.Walk.{walkOf, nothing, judgeUpTo, fromWalk, judgeListed, appliedOf}
-use Rattle.sender.proofs.Passing.{consistent-passes, range-facts}
+use Rattle.sender.specs.Facts.{consistent-facts}
 use Rattle.turning.proofs.Turned.{chosen-flag, turned-ext, turned-nothing}
 use Rattle.acknowledging.proofs.Naming.{stateAt, walk-never, walk-flags}
 
@@ -51,10 +51,10 @@ up-to m n =
 pub silent-right : (s : Sender) → consistentOf 32 32 s ≡ true → Right s silent (nothing 32 0)
 unfolding toldAnswer toldOf appliedOf
 silent-right s h =
-    let p = consistent-passes s h in
+    let f = consistent-facts 32 32 s (omega arith) (omega arith) h in
     record {
       answer = refl;
-      applied = sym (turned-nothing acknowledging _ s (λ n. chosen-below 0 n ∙ le-ltb n 0 (omega arith)) (p .stands) (p .blockStands));
+      applied = sym (turned-nothing 32 acknowledging _ s (λ n. chosen-below 0 n ∙ le-ltb n 0 (omega arith)) (f .lowStands) (f .channelStands));
     }
 
 -- two tests, each of which refuses with 8
@@ -78,7 +78,7 @@ up-to-right s (At m) =
     record {
       answer = two-answers (ltb m (s .firstdata .0)) (leb (s .next .0) m) (record { answer = 0; flags = replicate 32 false; upto = m + 1 }) refl;
       applied = two-applied s (acknowledgedOf 32 s (toldNames (upTo (At m)))) (ltb m (s .firstdata .0)) (leb (s .next .0) m)
-          (record { answer = 0; flags = replicate 32 false; upto = m + 1 }) (λ e. turned-ext acknowledging _ _ s (λ n l u. up-to m n));
+          (record { answer = 0; flags = replicate 32 false; upto = m + 1 }) (λ e. turned-ext 32 acknowledging _ _ s (λ n l u. up-to m n));
     }
 
 -- the flags of a walk that ends choose what the vector names
@@ -88,7 +88,7 @@ unfolding names
 walk-chooses s m v h un n l u =
     chosen-flag 32 (walkOf 32 (statesOf v) m (s .next .0) (s .low .0) (replicate 32 false) .flags) n
     ∙ walk-flags (statesOf v) m (s .next .0) (s .low .0) (replicate 32 false) (length-replicate 32 false)
-    (range-facts (s .firstdata .0) (s .low .0) (s .next .0) (consistent-passes s h .range) .room) un n l u
+    (consistent-facts 32 32 s (omega arith) (omega arith) h .bounds .room) un n l u
     ∙ ap (λ (b : Bool). cond b true (stateAt (statesOf v) m n)) (always 32 (n % 32) false)
 
 pub listed-right : (s : Sender) (a : Widened) (v : List ℕ) → consistentOf 32 32 s ≡ true → Right s (listed a v) (judgeListed 32 (s .firstdata .0) (s .low .0) (s .next .0) a v)
@@ -103,7 +103,7 @@ listed-right s (At m) v h =
           ∙ two-answers (ltb m (s .firstdata .0)) (namesUnsent (statesOf v) m (s .next .0)) j refl;
       applied = ap (λ (c : Bool). appliedOf 32 s (cond (ltb m (s .firstdata .0)) (nothing 32 8) (cond c (nothing 32 8) j))) e
           ∙ two-applied s (acknowledgedOf 32 s (toldNames (listed (At m) v))) (ltb m (s .firstdata .0)) (namesUnsent (statesOf v) m (s .next .0)) j
-          (λ un. turned-ext acknowledging _ _ s (walk-chooses s m v h un));
+          (λ un. turned-ext 32 acknowledging _ _ s (walk-chooses s m v h un));
     }
 
 -- what a packet tells, by its flags

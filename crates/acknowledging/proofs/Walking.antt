@@ -55,12 +55,13 @@ byte-starts d at size j b n next low flags x fits l e h =
     ∙ ap (λ (ss : List Bool). walkOf 32 ss n next low flags) (sym (states-cons (partOf d at size) j (omega (arith, part-length d at size fits)))) ∙ h
 
 -- a state of it is walked
-pub state-walked : (ss r : List Bool) (i n next low : ℕ) (flags : List Bool) (t never k : Bool) (x : Walked) → i < length ss → t ≡ getD ss i false → never ≡ cond t (leb next n) false
-    → never ≡ false → k ≡ cond (getD flags (n % 32) false) true (cond t (leb low n) false) → walkOf 32 (drop i ss ++ r) n next low flags ≡ x
-    → walkOf 32 (drop (i + 1) ss ++ r) (n + 1) next low (set flags (n % 32) k) ≡ x
-state-walked ss r i n next low flags t never k x l et en e ek h =
+pub state-walked : (ss r : List Bool) (i n next low at : ℕ) (flags : List Bool) (t never k : Bool) (x : Walked) → at ≡ n % 32 → i < length ss → t ≡ getD ss i false → never ≡ cond t (leb next n) false
+    → never ≡ false → k ≡ cond (getD flags at false) true (cond t (leb low n) false) → walkOf 32 (drop i ss ++ r) n next low flags ≡ x
+    → walkOf 32 (drop (i + 1) ss ++ r) (n + 1) next low (set flags at k) ≡ x
+state-walked ss r i n next low at flags t never k x a l et en e ek h =
+    ap (λ (m : ℕ). walkOf 32 (drop (i + 1) ss ++ r) (n + 1) next low (set flags m k)) a ∙
     walk-goes (getD ss i false) (drop (i + 1) ss ++ r) n next low flags k (ap (λ (y : Bool). cond y (leb next n) false) (sym et) ∙ sym en ∙ e)
-    (ek ∙ ap (λ (y : Bool). cond (getD flags (n % 32) false) true (cond y (leb low n) false)) et)
+    (rw a at ek ∙ ap (λ (y : Bool). cond (getD flags (n % 32) false) true (cond y (leb low n) false)) et)
     ∙ ap (λ (y : List Bool). walkOf 32 (y ++ r) n next low flags) (sym (bool-cons ss i l)) ∙ h
 
 pub state-stops : (ss r : List Bool) (i n next low : ℕ) (flags : List Bool) (t never : Bool) (x : Walked) → i < length ss → t ≡ getD ss i false → never ≡ cond t (leb next n) false

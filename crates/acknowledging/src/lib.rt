@@ -5,6 +5,7 @@ ghost use Prim.Native.Nat.{_+_, _≤_};
 ghost use lib.ListN.{length, replicate};
 ghost use lib.Dec.{leb};
 ghost use Rattle.numbers.specs.Widen.{widenOf};
+ghost use Rattle.numbers.specs.Full.{pastHighest};
 ghost use Rattle.vector.specs.Says.{statesOf};
 ghost use Rattle.wire.specs.declared.Reading.the-variants.{Read};
 ghost use Rattle.wire.specs.Layout.{partOf};
@@ -89,7 +90,7 @@ fn walk(d: &[u8], at: usize, size: usize, base: u64, next: u64, low: u64) -> Wal
                 never = true;
                 break 'bytes;
             }
-            let place = (n % DataNumber::WINDOW) as usize;
+            let place = window::data_place(DataNumber(n));
             let flag = flags[place];
             let kept = flagged(flag, named, n, low);
             flags[place] = kept;
@@ -103,7 +104,7 @@ fn walk(d: &[u8], at: usize, size: usize, base: u64, next: u64, low: u64) -> Wal
 
 // Judges an ACK, which names every number up to its own.
 fn judge_up_to(firstdata: u64, next: DataNumber, field: u16) -> Judged
-    requires { ⌜ next .0 ≤ 4294967296 ⌝ }
+    requires { ⌜ next .0 ≤ pastHighest ⌝ }
     ensures { λ r. ⌜ r ≡ judgeUpTo 32 firstdata (next .0) (widenOf (next .0) field) ⌝ }
 {
     let clear = [false; 32];
@@ -147,7 +148,7 @@ fn judge_listed(
     next: DataNumber,
     field: u16,
 ) -> Judged
-    requires { ⌜ (8 ≤ length (now d)) × (at + size ≤ length (now d)) × (size ≤ 127) × (next .0 ≤ 4294967296) ⌝ }
+    requires { ⌜ (8 ≤ length (now d)) × (at + size ≤ length (now d)) × (size ≤ 127) × (next .0 ≤ pastHighest) ⌝ }
     ensures { λ r. ⌜ r ≡ judgeListed 32 firstdata low (next .0) (widenOf (next .0) field) (partOf (now (d .entry)) at size) ⌝ }
 {
     let clear = [false; 32];

@@ -8,17 +8,19 @@ use native.Mathlib.Omega.{arith}
 use lib.Dec.{leb, ltb}
 use borrow.Author.Tests.{lt-ltb, le-ltb, lt-leb, le-leb, ne-eqb}
 use Rattle.common.specs.Order.{test, first, first-here, first-skip, first-none}
+use Rattle.numbers.specs.Full.{highest}
 use Rattle.wire.specs.declared.Values.{Values}
 use Rattle.wire.specs.Flags.{dataIn, aoaIn}
 use Rattle.numbers.specs.Widen.{widenOf}
 use Rattle.receiver.specs.declared.Receiver.{Receiver}
 use Rattle.arriving.specs.declared.packet.Arrived.the-variants.{Refused, Nothing, Waiver, Content}
-use Rattle.arriving.specs.declared.packet.Found.{Found}
-use Rattle.arriving.specs.declared.packet.Found.the-variants.{Out, At}
-use Rattle.receiver.specs.Record.{highest}
-use Rattle.receiver.specs.Packet.{Packet, content, waived, packetAnswer, arrivalAnswer}
-use Rattle.receiver.specs.Receive.{inPlace, onSome, dataNumber, channelNumber, aoaNumber, packetFrom, waiverFrom, arrivalFrom}
-use Rattle.arriving.specs.Judge.{foundOf, waivedAt, aoaOf, numbersAnswer, judgedFor, judgedOf}
+use Rattle.arriving.specs.declared.packet.FoundData.{FoundData}
+use Rattle.arriving.specs.declared.packet.FoundData.the-variants.{Out, At}
+use Rattle.arriving.specs.declared.packet.FoundChannel.{FoundChannel}
+use Rattle.arriving.specs.declared.packet.FoundChannel.the-variants.{Out as ChannelOut, At as ChannelAt}
+use Rattle.receiver.specs.Packet.{Packet, content, waived, numbersAnswer, packetAnswer, arrivalAnswer}
+use Rattle.receiver.specs.Receive.{inPlace, onSome, ifFlagged, dataNumber, channelNumber, aoaNumber, packetFrom, waiverFrom, arrivalFrom}
+use Rattle.arriving.specs.Judge.{foundData, foundChannel, waivedAt, judgedFor, judgedOf}
 
 -- A PACKET'S NUMBERS
 
@@ -50,24 +52,36 @@ module _ (w base due v n c b : ℕ) (hv : v ≤ highest) (hn : n ≤ highest) (e
   pub numbers-pass : c ≤ highest → c < due + w → 0 ≡ numbersAnswer w base due v n c
   numbers-pass l m = rest (first-none ∙ first-skip _ _ _ (lt-leb (due + w) c m) ∙ first-skip _ _ _ (le-ltb highest c l))
 
--- the same numbers as a packet's, whatever its block
-numbers-are : (w : ℕ) (r : Receiver) (a : Option ℕ) (n c : ℕ) (b : List ℕ)
-    → numbersAnswer w (r .base .0) (r .due .0) (waived a) n c ≡ packetAnswer w r (record { number = n; channel = c; aoa = a; block = b })
-unfolding numbersAnswer packetAnswer
-numbers-are w r none n c b = refl
-numbers-are w r (some v) n c b = refl
-
 -- WHAT WAS FOUND
 
-told-out : (x : Option ℕ) (f : Found) → f ≡ foundOf x → f ≡ Out → x ≡ none
-unfolding foundOf
-told-out none f e h = refl
-told-out (some n) f e h = cc
+-- the number that was found, where one was
+abbrev dataIs : FoundData → ℕ
+dataIs Out = 0
+dataIs (At n) = n .0
 
-told-at : (x : Option ℕ) (f : Found) (n : ℕ) → f ≡ foundOf x → f ≡ At n → x ≡ some n
-unfolding foundOf
-told-at none f n e h = cc
-told-at (some m) f n e h = let q : m ≡ n = cc in ap some q
+abbrev channelIs : FoundChannel → ℕ
+channelIs ChannelOut = 0
+channelIs (ChannelAt c) = c .0
+
+data-told-out : (x : Option ℕ) (f : FoundData) → f ≡ foundData x → f ≡ Out → x ≡ none
+unfolding foundData
+data-told-out none f e h = refl
+data-told-out (some n) f e h = cc
+
+data-told-at : (x : Option ℕ) (f : FoundData) (n : ℕ) → f ≡ foundData x → f ≡ At (record { 0 = n }) → x ≡ some n
+unfolding foundData
+data-told-at none f n e h = cc
+data-told-at (some m) f n e h = ap (λ (x : FoundData). some (dataIs x)) (sym e ∙ h)
+
+channel-told-out : (x : Option ℕ) (f : FoundChannel) → f ≡ foundChannel x → f ≡ ChannelOut → x ≡ none
+unfolding foundChannel
+channel-told-out none f e h = refl
+channel-told-out (some n) f e h = cc
+
+channel-told-at : (x : Option ℕ) (f : FoundChannel) (c : ℕ) → f ≡ foundChannel x → f ≡ ChannelAt (record { 0 = c }) → x ≡ some c
+unfolding foundChannel
+channel-told-at none f c e h = cc
+channel-told-at (some m) f c e h = ap (λ (x : FoundChannel). some (channelIs x)) (sym e ∙ h)
 
 -- a field seen from base, and one seen from due
 abbrev fromBase : Receiver → ℕ → Option ℕ
@@ -76,40 +90,40 @@ fromBase r f = inPlace (r .firstdata .0) (widenOf (r .base .0) f)
 abbrev fromDue : Receiver → ℕ → Option ℕ
 fromDue r f = inPlace (r .firstchannel .0) (widenOf (r .due .0) f)
 
-data-none : (r : Receiver) (f : ℕ) (x : Found) → x ≡ foundOf (fromBase r f) → x ≡ Out → dataNumber r f ≡ none
+data-none : (r : Receiver) (f : ℕ) (x : FoundData) → x ≡ foundData (fromBase r f) → x ≡ Out → dataNumber r f ≡ none
 unfolding dataNumber
-data-none r f x e h = told-out (fromBase r f) x e h
+data-none r f x e h = data-told-out (fromBase r f) x e h
 
-data-some : (r : Receiver) (f : ℕ) (x : Found) (n : ℕ) → x ≡ foundOf (fromBase r f) → x ≡ At n → dataNumber r f ≡ some n
+data-some : (r : Receiver) (f : ℕ) (x : FoundData) (n : ℕ) → x ≡ foundData (fromBase r f) → x ≡ At (record { 0 = n }) → dataNumber r f ≡ some n
 unfolding dataNumber
-data-some r f x n e h = told-at (fromBase r f) x n e h
+data-some r f x n e h = data-told-at (fromBase r f) x n e h
 
-channel-none : (r : Receiver) (f : ℕ) (x : Found) → x ≡ foundOf (fromDue r f) → x ≡ Out → channelNumber r f ≡ none
+channel-none : (r : Receiver) (f : ℕ) (x : FoundChannel) → x ≡ foundChannel (fromDue r f) → x ≡ ChannelOut → channelNumber r f ≡ none
 unfolding channelNumber
-channel-none r f x e h = told-out (fromDue r f) x e h
+channel-none r f x e h = channel-told-out (fromDue r f) x e h
 
-channel-some : (r : Receiver) (f : ℕ) (x : Found) (c : ℕ) → x ≡ foundOf (fromDue r f) → x ≡ At c → channelNumber r f ≡ some c
+channel-some : (r : Receiver) (f : ℕ) (x : FoundChannel) (c : ℕ) → x ≡ foundChannel (fromDue r f) → x ≡ ChannelAt (record { 0 = c }) → channelNumber r f ≡ some c
 unfolding channelNumber
-channel-some r f x c e h = told-at (fromDue r f) x c e h
+channel-some r f x c e h = channel-told-at (fromDue r f) x c e h
 
 -- an AckOfAcks where it is flagged
-waived-out : (x : Option (Option ℕ)) (f : Found) → f ≡ waivedAt x → f ≡ Out → x ≡ none
+waived-out : (x : Option (Option ℕ)) (f : FoundData) → f ≡ waivedAt x → f ≡ Out → x ≡ none
 unfolding waivedAt
 waived-out none f e h = refl
 waived-out (some a) f e h = cc
 
-waived-told : (x : Option (Option ℕ)) (f : Found) (u : ℕ) → f ≡ waivedAt x → f ≡ At u → (a : Option ℕ) × (x ≡ some a) × (u ≡ waived a)
+waived-told : (x : Option (Option ℕ)) (f : FoundData) (u : ℕ) → f ≡ waivedAt x → f ≡ At (record { 0 = u }) → (a : Option ℕ) × (x ≡ some a) × (u ≡ waived a)
 unfolding waivedAt
 waived-told none f u e h = absurd (let z : _≡_ {A = ℕ} 0 1 = cc in omega arith)
-waived-told (some a) f u e h = (a, refl, cc)
+waived-told (some a) f u e h = (a, refl, ap dataIs (sym h ∙ e))
 
-aoa-none : (r : Receiver) (flag : Bool) (f : ℕ) (x : Found) → x ≡ waivedAt (aoaOf flag (fromBase r f)) → x ≡ Out → aoaNumber r flag f ≡ none
-unfolding aoaOf aoaNumber dataNumber
+aoa-none : (r : Receiver) (flag : Bool) (f : ℕ) (x : FoundData) → x ≡ waivedAt (ifFlagged flag (fromBase r f)) → x ≡ Out → aoaNumber r flag f ≡ none
+unfolding dataNumber
 aoa-none r flag f x e h = waived-out (aoaNumber r flag f) x e h
 
-aoa-some : (r : Receiver) (flag : Bool) (f : ℕ) (x : Found) (u : ℕ) → x ≡ waivedAt (aoaOf flag (fromBase r f)) → x ≡ At u
+aoa-some : (r : Receiver) (flag : Bool) (f : ℕ) (x : FoundData) (u : ℕ) → x ≡ waivedAt (ifFlagged flag (fromBase r f)) → x ≡ At (record { 0 = u })
     → (a : Option ℕ) × (aoaNumber r flag f ≡ some a) × (u ≡ waived a)
-unfolding aoaOf aoaNumber dataNumber
+unfolding dataNumber
 aoa-some r flag f x u e h = waived-told (aoaNumber r flag f) x u e h
 
 -- A PACKET OF DATA
@@ -143,39 +157,39 @@ unfolding judgedOf arrivalFrom onSome
 judged-some w r v p d e = rw (d, e) refl
 
 module _ (w : ℕ) (r : Receiver) (v : Values) (d : dataIn (v .flags) ≡ true) where
-  pub content-waived : (flag : Bool) (x : Found) → flag ≡ aoaIn (v .flags) → x ≡ waivedAt (aoaOf flag (fromBase r (v .aoa))) → x ≡ Out
+  pub content-waived : (flag : Bool) (x : FoundData) → flag ≡ aoaIn (v .flags) → x ≡ waivedAt (ifFlagged flag (fromBase r (v .aoa))) → x ≡ Out
       → Refused ≡ judgedOf w r v
   unfolding packetFrom onSome
   content-waived flag x f e h =
       let q : aoaNumber r (aoaIn (v .flags)) (v .aoa) ≡ none = rw f at (aoa-none r flag (v .aoa) x e h) in
       judged-none w r v d (rw q refl)
 
-  pub content-number : (x : Found) → x ≡ foundOf (fromBase r (v .number)) → x ≡ Out → Refused ≡ judgedOf w r v
+  pub content-number : (x : FoundData) → x ≡ foundData (fromBase r (v .number)) → x ≡ Out → Refused ≡ judgedOf w r v
   unfolding packetFrom
   content-number x e h =
       judged-none w r v d
       (ap (λ (n : Option ℕ). made (aoaNumber r (aoaIn (v .flags)) (v .aoa)) n (channelNumber r (v .channel)) []) (data-none r (v .number) x e h)
       ∙ made-number (aoaNumber r (aoaIn (v .flags)) (v .aoa)) (channelNumber r (v .channel)) [])
 
-  pub content-channel : (x : Found) → x ≡ foundOf (fromDue r (v .channel)) → x ≡ Out → Refused ≡ judgedOf w r v
+  pub content-channel : (x : FoundChannel) → x ≡ foundChannel (fromDue r (v .channel)) → x ≡ ChannelOut → Refused ≡ judgedOf w r v
   unfolding packetFrom
   content-channel x e h =
       judged-none w r v d
       (ap (λ (c : Option ℕ). made (aoaNumber r (aoaIn (v .flags)) (v .aoa)) (dataNumber r (v .number)) c []) (channel-none r (v .channel) x e h)
       ∙ made-channel (aoaNumber r (aoaIn (v .flags)) (v .aoa)) (dataNumber r (v .number)) [])
 
-  module _ (flag : Bool) (x y z : Found) (u n c k : ℕ) (f : flag ≡ aoaIn (v .flags)) (ex : x ≡ waivedAt (aoaOf flag (fromBase r (v .aoa)))) (hx : x ≡ At u)
-      (ey : y ≡ foundOf (fromBase r (v .number))) (hy : y ≡ At n) (ez : z ≡ foundOf (fromDue r (v .channel))) (hz : z ≡ At c)
+  module _ (flag : Bool) (x y : FoundData) (z : FoundChannel) (u n c k : ℕ) (f : flag ≡ aoaIn (v .flags)) (ex : x ≡ waivedAt (ifFlagged flag (fromBase r (v .aoa)))) (hx : x ≡ At (record { 0 = u }))
+      (ey : y ≡ foundData (fromBase r (v .number))) (hy : y ≡ At (record { 0 = n })) (ez : z ≡ foundChannel (fromDue r (v .channel))) (hz : z ≡ ChannelAt (record { 0 = c }))
       (answer : k ≡ numbersAnswer w (r .base .0) (r .due .0) u n c) where
     found : (a : Option ℕ) × (aoaNumber r (aoaIn (v .flags)) (v .aoa) ≡ some a) × (u ≡ waived a)
-    found = aoa-some r (aoaIn (v .flags)) (v .aoa) x u (ex ∙ ap (λ (t : Bool). waivedAt (aoaOf t (fromBase r (v .aoa)))) f) hx
+    found = aoa-some r (aoaIn (v .flags)) (v .aoa) x u (ex ∙ ap (λ (t : Bool). waivedAt (ifFlagged t (fromBase r (v .aoa)))) f) hx
 
     put-together : (a : Option ℕ) → aoaNumber r (aoaIn (v .flags)) (v .aoa) ≡ some a → packetFrom r v [] ≡ some (bare n c a)
     unfolding packetFrom onSome
     put-together a q = rw (q, data-some r (v .number) y n ey hy, channel-some r (v .channel) z c ez hz) refl
 
     answered : (a : Option ℕ) → u ≡ waived a → k ≡ packetAnswer w r (bare n c a)
-    answered a e = answer ∙ ap (λ (m : ℕ). numbersAnswer w (r .base .0) (r .due .0) m n c) e ∙ numbers-are w r a n c []
+    answered a e = answer ∙ ap (λ (m : ℕ). numbersAnswer w (r .base .0) (r .due .0) m n c) e
 
     pub content-refused : (k ≡ 0 → ⊥) → Refused ≡ judgedOf w r v
     unfolding arrivalAnswer
@@ -185,13 +199,13 @@ module _ (w : ℕ) (r : Receiver) (v : Values) (d : dataIn (v .flags) ≡ true) 
         go : (a : Option ℕ) → judgedFor w r (some (content (bare n c a))) ≡ judgedOf w r v → k ≡ packetAnswer w r (bare n c a) → Refused ≡ judgedOf w r v
         go a e q = rw (← q, ne-eqb k 0 h) at e
 
-    pub content-accepted : k ≡ 0 → Content n c u ≡ judgedOf w r v
+    pub content-accepted : k ≡ 0 → Content (record { 0 = n }) (record { 0 = c }) (record { 0 = u }) ≡ judgedOf w r v
     unfolding arrivalAnswer
     content-accepted h =
-        ap (Content n c) (found .2)
+        ap (λ (m : ℕ). Content (record { 0 = n }) (record { 0 = c }) (record { 0 = m })) (found .2)
         ∙ go (found .0) (judged-some w r v (bare n c (found .0)) d (put-together (found .0) (found .1))) (sym h ∙ answered (found .0) (found .2))
       where
-        go : (a : Option ℕ) → judgedFor w r (some (content (bare n c a))) ≡ judgedOf w r v → 0 ≡ packetAnswer w r (bare n c a) → Content n c (waived a) ≡ judgedOf w r v
+        go : (a : Option ℕ) → judgedFor w r (some (content (bare n c a))) ≡ judgedOf w r v → 0 ≡ packetAnswer w r (bare n c a) → Content (record { 0 = n }) (record { 0 = c }) (record { 0 = waived a }) ≡ judgedOf w r v
         go a e q = rw (← q) at e
 
 -- NO DATA
@@ -205,20 +219,20 @@ module _ (w : ℕ) (r : Receiver) (v : Values) (b : Bool) (eb : b ≡ dataIn (v 
   unfolding waiverFrom arrivalAnswer
   waiver-absent f e h = let q : aoaIn (v .flags) ≡ false = sym e ∙ h in rw q at judged-waiver
 
-  module _ (f : Bool) (ef : f ≡ aoaIn (v .flags)) (hf : f ≡ true) (x : Found) (ex : x ≡ foundOf (fromBase r (v .aoa))) where
+  module _ (f : Bool) (ef : f ≡ aoaIn (v .flags)) (hf : f ≡ true) (x : FoundData) (ex : x ≡ foundData (fromBase r (v .aoa))) where
     pub waiver-out : x ≡ Out → Refused ≡ judgedOf w r v
     unfolding waiverFrom onSome
     waiver-out h =
         let q : aoaIn (v .flags) ≡ true = sym ef ∙ hf in
         rw (q, data-none r (v .aoa) x ex h) at judged-waiver
 
-    pub waiver-high : (u : ℕ) → x ≡ At u → highest < u → Refused ≡ judgedOf w r v
+    pub waiver-high : (u : ℕ) → x ≡ At (record { 0 = u }) → highest < u → Refused ≡ judgedOf w r v
     unfolding waiverFrom onSome arrivalAnswer first
     waiver-high u h l =
         let q : aoaIn (v .flags) ≡ true = sym ef ∙ hf in
         rw (q, data-some r (v .aoa) x u ex h, lt-ltb highest u l) at judged-waiver
 
-    pub waiver-given : (u : ℕ) → x ≡ At u → u ≤ highest → Waiver u ≡ judgedOf w r v
+    pub waiver-given : (u : ℕ) → x ≡ At (record { 0 = u }) → u ≤ highest → Waiver (record { 0 = u }) ≡ judgedOf w r v
     unfolding waiverFrom onSome arrivalAnswer first
     waiver-given u h l =
         let q : aoaIn (v .flags) ≡ true = sym ef ∙ hf in

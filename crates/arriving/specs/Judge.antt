@@ -1,50 +1,33 @@
 -- Judging what a packet's values bring, apart from the block's bytes and before anything is changed; and what the judged numbers then leave.
-use Prim.Native.Nat.{ℕ, _+_, max}
-use mathlib.Core.Bool.{Bool, false, cond, not}
+use Prim.Native.Nat.{ℕ}
+use mathlib.Core.Bool.{cond}
 use mathlib.Core.Option.{Option, none, some}
-use mathlib.Core.List.{List, [], _∷_}
-use lib.Dec.{eqb, leb, ltb}
-use Rattle.common.specs.Order.{Test, test, first}
+use mathlib.Core.List.{List, []}
+use lib.Dec.{eqb}
 use Rattle.wire.specs.declared.Values.{Values}
-use Rattle.receiver.specs.declared.Hold.{Hold}
 use Rattle.receiver.specs.declared.Receiver.{Receiver}
+use Rattle.receiver.specs.Record.{State}
+use Rattle.receiver.specs.Packet.{Packet, Arrival, nothing, waiver, content, waived, arrivalAnswer, receiverAfter, waiverAfter, storeAfter}
+use Rattle.receiver.specs.Receive.{arrivalFrom}
 use Rattle.arriving.specs.declared.packet.Arrived.{Arrived}
 use Rattle.arriving.specs.declared.packet.Arrived.the-variants.{Refused, Nothing, Waiver, Content}
-use Rattle.arriving.specs.declared.packet.Found.{Found}
-use Rattle.arriving.specs.declared.packet.Found.the-variants.{Out, At}
-use Rattle.receiver.specs.Record.{highest, State, isHeld}
-use Rattle.receiver.specs.Packet.{Packet, Arrival, nothing, waiver, content, waived, arrivalAnswer, receiverAfter, waiverAfter, storeAfter}
-use Rattle.receiver.specs.Receive.{onSome, arrivalFrom}
+use Rattle.arriving.specs.declared.packet.FoundData.{FoundData}
+use Rattle.arriving.specs.declared.packet.FoundData.the-variants.{Out, At}
+use Rattle.arriving.specs.declared.packet.FoundChannel.{FoundChannel}
+use Rattle.arriving.specs.declared.packet.FoundChannel.the-variants.{Out as ChannelOut, At as ChannelAt}
 
 -- a number that a field stands for, and the number below which all is waived
-unfoldable pub foundOf : Option ℕ → Found
-foundOf none = Out
-foundOf (some n) = At n
+unfoldable pub foundData : Option ℕ → FoundData
+foundData none = Out
+foundData (some n) = At (record { 0 = n })
 
-unfoldable pub waivedAt : Option (Option ℕ) → Found
+unfoldable pub foundChannel : Option ℕ → FoundChannel
+foundChannel none = ChannelOut
+foundChannel (some c) = ChannelAt (record { 0 = c })
+
+unfoldable pub waivedAt : Option (Option ℕ) → FoundData
 waivedAt none = Out
-waivedAt (some a) = At (waived a)
-
--- an AckOfAcks where it is flagged, v what its field stands for
-unfoldable pub aoaOf : Bool → Option ℕ → Option (Option ℕ)
-aoaOf flag v = cond flag (onSome v (λ n. some (some n))) (some none)
-
--- a packet's tests over its numbers alone
-abbrev pub numberTests : ℕ → ℕ → ℕ → ℕ → ℕ → ℕ → List Test
-numberTests w base due v n c =
-    test (ltb highest v) 7
-    ∷ test (ltb highest n) 7
-    ∷ test (leb (max base v + w) n) 7
-    ∷ test (ltb highest c) 7
-    ∷ test (leb (due + w) c) 7
-    ∷ []
-
-unfoldable pub numbersAnswer : ℕ → ℕ → ℕ → ℕ → ℕ → ℕ → ℕ
-numbersAnswer w base due v n c = first (numberTests w base due v n c)
-
--- is block c kept, where h stands at its place?
-unfoldable pub keptOf : ℕ → ℕ → Hold → Bool
-keptOf due c h = cond (ltb c due) false (not (isHeld h))
+waivedAt (some a) = At (record { 0 = waived a })
 
 -- document 01's number for each answer: "a data, channel or AckOfAcks number out of place" is 7
 abbrev pub numberOf : Arrived → ℕ
@@ -56,8 +39,8 @@ numberOf (Content n c v) = 0
 -- the numbers of an arrival
 abbrev pub numbersIn : Arrival → Arrived
 numbersIn nothing = Nothing
-numbersIn (waiver v) = Waiver v
-numbersIn (content p) = Content (p .number) (p .channel) (waived (p .aoa))
+numbersIn (waiver v) = Waiver (record { 0 = v })
+numbersIn (content p) = Content (record { 0 = p .number }) (record { 0 = p .channel }) (record { 0 = waived (p .aoa) })
 
 abbrev pub judgedFor : ℕ → Receiver → Option Arrival → Arrived
 judgedFor w r none = Refused
@@ -75,6 +58,9 @@ packetWith n c v block = record { number = n; channel = c; aoa = some v; block =
 unfoldable pub leftBy : ℕ → State → List ℕ → Arrived → State
 leftBy w s block Refused = s
 leftBy w s block Nothing = s
-leftBy w s block (Waiver v) = record { receiver = waiverAfter w (s .receiver) v; store = s .store }
+leftBy w s block (Waiver v) = record { receiver = waiverAfter w (s .receiver) (v .0); store = s .store }
 leftBy w s block (Content n c v) =
-    record { receiver = receiverAfter w (s .receiver) (packetWith n c v block); store = storeAfter w s (packetWith n c v block) }
+    record {
+      receiver = receiverAfter w (s .receiver) (packetWith (n .0) (c .0) (v .0) block);
+      store = storeAfter w s (packetWith (n .0) (c .0) (v .0) block);
+    }

@@ -4,8 +4,9 @@ use mathlib.Core.Bool.{Bool, true, false, cond}
 use mathlib.Core.Option.{Option, none, some}
 use mathlib.Core.List.{List, [], _∷_}
 use mathlib.Core.Path.{_≡_, refl, sym, _∙_, ap}
-use lib.Dec.{eqb}
+use lib.Dec.{eqb, ltb}
 use Rattle.common.specs.Order.{Test, test, first}
+use Rattle.numbers.specs.Full.{highest}
 use Rattle.wire.specs.declared.Packet.{Packet as Taken}
 use Rattle.wire.specs.declared.Values.{Values}
 use Rattle.wire.specs.Flags.{dataIn, aoaIn}
@@ -14,7 +15,7 @@ use Rattle.receiver.specs.declared.Receiver.{Receiver}
 use Rattle.arriving.specs.declared.packet.Arrived.{Arrived}
 use Rattle.arriving.specs.declared.packet.Arrived.the-variants.{Refused, Waiver, Content}
 use Rattle.receiver.specs.Record.{State}
-use Rattle.receiver.specs.Packet.{Packet, Arrival, nothing, waiver, content, waived, aoaHigh, packetTests, packetAnswer, arrivalAnswer, receiverAfter, waiverAfter, storeAfter, packetOf, arrivalOf}
+use Rattle.receiver.specs.Packet.{Packet, Arrival, nothing, waiver, content, waived, numberTests, numbersAnswer, packetAnswer, arrivalAnswer, receiverAfter, waiverAfter, storeAfter, packetOf, arrivalOf}
 use Rattle.receiver.specs.Receive.{onSome, dataNumber, channelNumber, aoaNumber, packetFrom, waiverFrom, arrivalFrom, answerFor, stateFor, valuesAnswer, valuesOf}
 use Rattle.arriving.specs.Judge.{numberOf, numbersIn, judgedFor, judgedOf, leftBy}
 
@@ -34,7 +35,7 @@ arrives-is r v block = refl
 -- a block's bytes do not matter for the judgement
 same-judged : (w : ℕ) (r : Receiver) (has : Bool) (a : Option (Option ℕ)) (n c v : Option ℕ) (flag : Bool) (block : List ℕ)
     → judgedFor w r (arrives has a n c v flag []) ≡ judgedFor w r (arrives has a n c v flag block)
-unfolding arrives onSome arrivalAnswer packetAnswer
+unfolding arrives onSome arrivalAnswer
 same-judged w r true none n c v flag block = refl
 same-judged w r true (some a) none c v flag block = refl
 same-judged w r true (some a) (some n) none v flag block = refl
@@ -57,12 +58,12 @@ sevens (t ∷ ts) a h z = go (t .holds) (t .no) (h .0) (sevens ts a (h .1) z)
     go false n e q = q
 
 judged-number : (w : ℕ) (r : Receiver) (o : Option Arrival) → numberOf (judgedFor w r o) ≡ answerFor w r o
-unfolding arrivalAnswer packetAnswer
+unfolding arrivalAnswer numbersAnswer
 judged-number w r none = refl
 judged-number w r (some nothing) = refl
-judged-number w r (some (waiver v)) = sevens (test (aoaHigh (some v)) 7 ∷ []) (Waiver v) (refl, refl) refl
+judged-number w r (some (waiver v)) = sevens (test (ltb highest v) 7 ∷ []) (Waiver (record { 0 = v })) (refl, refl) refl
 judged-number w r (some (content p)) =
-    sevens (packetTests w r p) (numbersIn (content p)) (refl, (refl, (refl, (refl, (refl, refl))))) refl
+    sevens (numberTests w (r .base .0) (r .due .0) (waived (p .aoa)) (p .number) (p .channel)) (numbersIn (content p)) (refl, (refl, (refl, (refl, (refl, refl))))) refl
 
 pub judged-answer : (w : ℕ) (r : Receiver) (d : List ℕ) (p : Taken) → numberOf (judgedOf w r (p .values)) ≡ valuesAnswer w r d p
 unfolding judgedOf valuesAnswer
@@ -83,7 +84,7 @@ content-left w s a n c block = go (eqb (packetAnswer w (s .receiver) (record { n
     p : Packet
     p = record { number = n; channel = c; aoa = a; block = block }
 
-    go : (t : Bool) → leftBy w s block (cond t (Content n c (waived a)) Refused)
+    go : (t : Bool) → leftBy w s block (cond t (Content (record { 0 = n }) (record { 0 = c }) (record { 0 = waived a })) Refused)
         ≡ cond t (record { receiver = receiverAfter w (s .receiver) p; store = storeAfter w s p }) s
     go true = refl
     go false = refl
@@ -93,7 +94,7 @@ waiver-left : (w : ℕ) (s : State) (v : ℕ) (block : List ℕ)
 unfolding arrivalOf leftBy
 waiver-left w s v block = go (eqb (arrivalAnswer w (s .receiver) (waiver v)) 0)
   where
-    go : (t : Bool) → leftBy w s block (cond t (Waiver v) Refused) ≡ cond t (record { receiver = waiverAfter w (s .receiver) v; store = s .store }) s
+    go : (t : Bool) → leftBy w s block (cond t (Waiver (record { 0 = v })) Refused) ≡ cond t (record { receiver = waiverAfter w (s .receiver) v; store = s .store }) s
     go true = refl
     go false = refl
 

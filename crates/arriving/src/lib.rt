@@ -23,7 +23,7 @@ pub fn receive(r: Receiver, store: &mut [u8], d: &[u8]) -> Received
     ensures record { λ x. ⌜ x .receiver ≡ receiveOf 32 32 (state r (now (store .entry))) (now (d .entry)) .receiver ⌝ }
     ensures bytes { λ x. ⌜ now (store .exit) ≡ receiveOf 32 32 (state r (now (store .entry))) (now (d .entry)) .store ⌝ }
 {
-    if !checking::sized(checking::consistent(r), store.len()) {
+    if !window::sound(checking::consistent(r), store.len()) {
         return Received {
             receiver: r,
             answer: 13,

@@ -21,7 +21,7 @@ use Rattle.wire.specs.Read.{readOf, readPacket}
 use Rattle.wire.specs.Round.Found.{found}
 use Rattle.receiver.specs.CanBeMet.{fresh, five, waiving, late, three, three-are-a-set}
 use Rattle.receiver.specs.AnyOrder.{readyOf}
-use Rattle.receiver.specs.Receive.{onSome, dataNumber, channelNumber, aoaNumber, packetFrom}
+use Rattle.receiver.specs.Receive.{onSome, dataNumber, channelNumber, ifFlagged, packetFrom}
 use Rattle.receiver.specs.Determined.{inside, heldIn, hasBy, dueBy, blockIn, bodyBy, blocksFrom}
 use Rattle.receiver.specs.History.{Event, arrives, takes, datagramsOf, takesOf}
 use Rattle.receiver.specs.Set.{packetAt, From, Covers}
@@ -95,7 +95,7 @@ history-covers d (List·Memᴰ·tail (List·Memᴰ·tail (List·Memᴰ·head e))
 ready-two : readyOf 32 fresh three ≡ [] ∷ [] ∷ []
 unfolding every readOf readPacket first swapped droppedBy endOf outside sixOf ackEnd overheadEnd delayEnd aoaEnd numberEnd vectorEnd channelEnd
     valuesOf packetOf partOf packetFrom
-    onSome dataNumber channelNumber aoaNumber widenOf packetAt hasBy heldIn inside dueBy free among bodyBy blockIn blocksFrom
+    onSome dataNumber channelNumber ifFlagged widenOf packetAt hasBy heldIn inside dueBy free among bodyBy blockIn blocksFrom
 ready-two = refl
 
 pub two-handed : handed 32 32 outset (history ++ takesOf 32) ≡ [] ∷ [] ∷ []

@@ -32,7 +32,7 @@ use Rattle.receiver.specs.declared.Receiver.{Receiver}
 use Rattle.receiver.specs.Packet.{Packet}
 use Rattle.receiver.specs.CanBeMet.{fresh, none-held, small, are-bytes, three-are-a-set}
 use Rattle.receiver.specs.AnyOrder.{packetsOf, itemsOf, readyOf}
-use Rattle.receiver.specs.Receive.{onSome, dataNumber, channelNumber, aoaNumber, packetFrom}
+use Rattle.receiver.specs.Receive.{onSome, dataNumber, channelNumber, ifFlagged, packetFrom}
 use Rattle.receiver.specs.Determined.{itemOf, inside, markedIn, heldIn, seenBy, hasBy, floorBy, baseBy, endBy, dueBy, determinedOf, blockIn, bodyBy, blocksFrom}
 use Rattle.receiver.specs.History.{Event, arrives, datagramsOf, takesOf}
 use Rattle.receiver.specs.Set.{Readable, AoaFits, Fits, Set, packetAt, From, Covers}
@@ -127,7 +127,7 @@ all-bytes = refl
 
 all-bring : tabulate 32 (λ i. brought (datagram i) (readOf (datagram i))) ≡ tabulate 32 (λ i. some (packet i))
 unfolding tabulate datagram datagramOf packetBytes framed prefixFor padded readOf readPacket first swapped droppedBy endOf outside sixOf ackEnd overheadEnd
-    delayEnd aoaEnd numberEnd vectorEnd channelEnd valuesOf packetOf partOf packetFrom onSome dataNumber channelNumber aoaNumber widenOf
+    delayEnd aoaEnd numberEnd vectorEnd channelEnd valuesOf packetOf partOf packetFrom onSome dataNumber channelNumber ifFlagged widenOf
 all-bring = refl
 
 one-brings : (i : ℕ) → i < 32 → brought (datagram i) (readOf (datagram i)) ≡ some (packet i)

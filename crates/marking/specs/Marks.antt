@@ -4,4 +4,4 @@ use Rattle.window.specs.Window.{Win}
 use Rattle.marking.specs.declared.Marks.{Marks}
 
 abbrev pub winOf : Marks → Win ℕ
-winOf m = record { base = m .base; places = m .places }
+winOf m = record { base = m .base .0; places = m .places }

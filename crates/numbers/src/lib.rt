@@ -3,8 +3,17 @@
 // widened against the other's reference; both widen by the one rule.
 ghost use mathlib.Core.Path.{_≡_};
 ghost use Prim.Native.Nat.{_≤_};
+ghost use Rattle.numbers.specs.Full.{pastHighest};
 ghost use Rattle.numbers.specs.Widen.{widenOf, dataOf, channelOf, outOf, fromData, fromChannel};
 ghost use Rattle.numbers.specs.Age.{ageOf};
+
+// The highest full number, and one past it, where the next of its kind may stand.
+pub const HIGHEST: u64 = 4294967295;
+
+pub const PAST: u64 = HIGHEST + 1;
+
+// The highest first number of either kind.
+pub const FIRST: u64 = 65535;
 
 // What a field widens to, as a number of no kind yet.
 pub enum Widened {
@@ -36,7 +45,7 @@ pub enum WidenedChannel {
 
 // The whole number congruent to field modulo 65,536 that lies from reference - 32,768 to reference + 32,767.
 fn widen(reference: u64, field: u16) -> Widened
-    requires { ⌜ reference ≤ 4294967296 ⌝ }
+    requires { ⌜ reference ≤ pastHighest ⌝ }
     ensures { λ r. ⌜ r ≡ widenOf reference field ⌝ }
 {
     let top = reference + DataNumber::HALF - 1;
@@ -58,7 +67,7 @@ impl DataNumber {
 
     // The data number that a field of a packet stands for, seen from a reference of a consistent record.
     pub fn widen(reference: DataNumber, field: u16) -> WidenedData
-        requires { ⌜ reference .0 ≤ 4294967296 ⌝ }
+        requires { ⌜ reference .0 ≤ pastHighest ⌝ }
         ensures { λ r. ⌜ r ≡ dataOf (widenOf (reference .0) field) ⌝ }
     {
         match widen(reference.0, field) {
@@ -73,10 +82,12 @@ impl ChannelNumber {
     pub const WINDOW: u64 = DataNumber::WINDOW;
     // How far a number may lie below the reference that its field is widened against.
     pub const HALF: u64 = DataNumber::HALF;
+    // How far apart two numbers of one field lie.
+    pub const LAP: u64 = DataNumber::LAP;
 
     // The channel number that a field of a packet stands for, seen from a reference of a consistent record.
     pub fn widen(reference: ChannelNumber, field: u16) -> WidenedChannel
-        requires { ⌜ reference .0 ≤ 4294967296 ⌝ }
+        requires { ⌜ reference .0 ≤ pastHighest ⌝ }
         ensures { λ r. ⌜ r ≡ channelOf (widenOf (reference .0) field) ⌝ }
     {
         match widen(reference.0, field) {

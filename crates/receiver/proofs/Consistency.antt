@@ -9,19 +9,21 @@ use lib.Dec.{eqb, leb, ltb}
 use borrow.Author.Tests.{lt-ltb, le-ltb, le-leb, lt-leb, eq-eqb, ne-eqb, leb-true, eqb-true, not-false}
 use Rattle.common.specs.Every.{every, allBelow, implies}
 use Rattle.common.specs.Facts.{ltb-not, leb-not, clash, not-so}
+use Rattle.numbers.specs.Full.{highest, pastHighest}
+use Rattle.window.specs.Store.{placeSize, storeSize}
 use Rattle.window.specs.Places.{pastOf}
 use Rattle.window.specs.EachPlace.{countOf, all-placed, past-below}
 use Rattle.receiver.specs.declared.Hold.{Hold}
 use Rattle.receiver.specs.declared.Receiver.{Receiver}
-use Rattle.receiver.specs.Record.{highest, isMarked, isHeld, empty, markAt, holdAt}
-use Rattle.receiver.specs.Consistent.{markOk, holdOk, spareMark, spareHold, consistencyTests, consistentOf, soundOf}
-use Rattle.receiver.specs.Checking.{boundTests, boundsOk, markFine, holdKept, heldLow, soundBy}
+use Rattle.receiver.specs.Record.{isMarked, isHeld, empty, markAt, holdAt}
+use Rattle.receiver.specs.Consistent.{boundTests, boundsFit, markFits, zeroTests, holdFits, markOk, holdOk, spareMark, spareHold, consistencyTests, consistentOf}
+use Rattle.receiver.specs.Checking.{heldLow}
 use Rattle.common.specs.EveryLaws.{every-at, every-fails, every-later, every-skip, every-front, every-back, every-last, every-none, every-made, every-one, implies-if, implies-else, imply, all-from, all-at, all-both}
 
 -- ONE PLACE
 
-pub mark-wrong-is : (m past span : ℕ) → (ltb 1 m || (eqb m 1 && leb span past)) ≡ not (markFine m past span)
-unfolding markFine every implies
+pub mark-wrong-is : (m past span : ℕ) → (ltb 1 m || (eqb m 1 && leb span past)) ≡ not (markFits m past span)
+unfolding markFits every implies
 mark-wrong-is m past span = rw (ltb-not 1 m, leb-not span past) (go (leb m 1) (eqb m 1) (ltb past span))
   where
     go : (flag one below : Bool) → (not flag || (one && not below)) ≡ not (cond flag (cond (cond one below true) true false) false)
@@ -30,11 +32,11 @@ mark-wrong-is m past span = rw (ltb-not 1 m, leb-not span past) (go (leb m 1) (e
     go true false below = refl
     go false one below = refl
 
-pub hold-wrong-is : (h : Hold) → ((isHeld h && ltb 1225 (h .length)) || (not (isHeld h) && (not (eqb (h .held) 0) || not (eqb (h .length) 0)))) ≡ not (holdKept h)
-unfolding holdKept every
-hold-wrong-is h = rw (ltb-not 1225 (h .length)) (go (isHeld h) (leb (h .length) 1225) (eqb (h .held) 0) (eqb (h .length) 0))
+pub hold-wrong-is : (h : Hold) → ((isHeld h && ltb placeSize (h .length)) || (not (isHeld h) && (not (eqb (h .held) 0) || not (eqb (h .length) 0)))) ≡ not (holdFits h 0)
+unfolding holdFits every
+hold-wrong-is h = rw (ltb-not placeSize (h .length)) (go (isHeld h) (leb (h .length) placeSize) (eqb (h .held) 0) (eqb (h .length) 0))
   where
-    go : (held short none zero : Bool) → ((held && not short) || (not held && (not none || not zero))) ≡ not (cond held short (cond none (cond zero true false) false))
+    go : (held short none zero : Bool) → ((held && not short) || (not held && (not none || not zero))) ≡ not (cond held (cond short true false) (cond none (cond zero true false) false))
     go true true none zero = refl
     go true false none zero = refl
     go false short true true = refl
@@ -58,31 +60,31 @@ all-low holds due room l = ap not (sym (all-from (heldLow 32 holds due room) 32 
 
 -- place j, with what its number's distance from base or due says
 abbrev pub markPlaced : ℕ → Receiver → ℕ → Bool
-markPlaced w r j = markFine (getD (r .marks) j 0) (pastOf w (r .base .0) j) (countOf w (r .base .0) (r .end .0))
+markPlaced w r j = markFits (getD (r .marks) j 0) (pastOf w (r .base .0) j) (countOf w (r .base .0) (r .end .0))
 
 abbrev pub keptPlaced : Receiver → ℕ → Bool
-keptPlaced r j = holdKept (getD (r .holds) j empty)
+keptPlaced r j = holdFits (getD (r .holds) j empty) 0
 
 abbrev lowPlaced : ℕ → Receiver → ℕ → Bool
-lowPlaced w r = heldLow w (r .holds) (r .due .0) (countOf w (r .due .0) 4294967296)
+lowPlaced w r = heldLow w (r .holds) (r .due .0) (countOf w (r .due .0) pastHighest)
 
 marks-placed : (w : ℕ) (r : Receiver) → allBelow (markOk w r) w ≡ allBelow (markPlaced w r) w
-unfolding markOk markFine
+unfolding markOk markFits
 marks-placed w r = all-placed w (r .base .0) (markOk w r) (markPlaced w r) λ i l. rw (past-below w (r .base .0) (r .end .0) i l) refl
 
 holds-placed : (w : ℕ) (r : Receiver) → allBelow (holdOk w r) w ≡ every (allBelow (keptPlaced r) w ∷ allBelow (lowPlaced w r) w ∷ [])
-unfolding holdOk holdKept heldLow every implies
+unfolding holdOk holdFits heldLow every implies
 holds-placed w r =
     all-placed w (r .due .0) (holdOk w r) (λ j. every (keptPlaced r j ∷ lowPlaced w r j ∷ []))
     (λ i l. let h = holdAt w r (r .due .0 + i) in
-    rw (full (r .due .0 + i), past-below w (r .due .0) 4294967296 i l)
-    (go (isHeld h) (leb (h .length) 1225) (ltb (pastOf w (r .due .0) ((r .due .0 + i) % w)) (countOf w (r .due .0) 4294967296)) (every (eqb (h .held) 0 ∷ eqb (h .length) 0 ∷ []))))
+    rw (full (r .due .0 + i), past-below w (r .due .0) pastHighest i l)
+    (go (isHeld h) (leb (h .length) placeSize) (ltb (pastOf w (r .due .0) ((r .due .0 + i) % w)) (countOf w (r .due .0) pastHighest)) (every (zeroTests h))))
     ∙ all-both (keptPlaced r) (lowPlaced w r) w
   where
-    full : (n : ℕ) → leb n highest ≡ ltb n 4294967296
-    full n = leb-not n highest ∙ sym (ltb-not n 4294967296)
+    full : (n : ℕ) → leb n highest ≡ ltb n pastHighest
+    full n = leb-not n highest ∙ sym (ltb-not n pastHighest)
 
-    go : (held short low none : Bool) → cond held (cond short (cond low true false) false) none ≡ cond (cond held short none) (cond (cond held low true) true false) false
+    go : (held short low none : Bool) → cond held (cond short (cond low true false) false) none ≡ cond (cond held (cond short true false) none) (cond (cond held low true) true false) false
     go true true true none = refl
     go true true false none = refl
     go true false low none = refl
@@ -95,18 +97,6 @@ holds-placed w r =
 abbrev endStands : Receiver → Bool
 endStands r = implies (ltb (r .base .0) (r .end .0)) (isMarked (markAt 32 r (r .end .0 - 1)))
 
--- the tests that follow the bounds
-abbrev placesOf : Receiver → List Bool
-placesOf r =
-    not (isMarked (markAt 32 r (r .base .0)))
-    ∷ leb (r .end .0) (r .base .0 + 32)
-    ∷ endStands r
-    ∷ allBelow (markOk 32 r) 32
-    ∷ allBelow (holdOk 32 r) 32
-    ∷ allBelow (spareMark 32 r) 32
-    ∷ allBelow (spareHold 32 r) 32
-    ∷ []
-
 -- no place lies past the window
 spare-marks : (r : Receiver) → allBelow (spareMark 32 r) 32 ≡ true
 unfolding spareMark
@@ -117,36 +107,34 @@ unfolding spareHold
 spare-holds r = all-from (spareHold 32 r) 32 (λ i l. sym (implies-else _ _ (lt-leb 32 i l)))
 
 pub record Bounds (r : Receiver) : Type 0 where
-  pub baseFits : r .base .0 ≤ 4294967296
-  pub dueFits : r .due .0 ≤ 4294967296
+  pub baseFits : r .base .0 ≤ pastHighest
+  pub dueFits : r .due .0 ≤ pastHighest
 
 module _ (r : Receiver) where
   abbrev boundsOf : List Bool
   boundsOf = boundTests (r .firstdata .0) (r .firstchannel .0) (r .base .0) (r .end .0) (r .due .0)
 
   abbrev pub inBounds : Bool
-  inBounds = boundsOk (r .firstdata .0) (r .firstchannel .0) (r .base .0) (r .end .0) (r .due .0)
+  inBounds = boundsFit (r .firstdata .0) (r .firstchannel .0) (r .base .0) (r .end .0) (r .due .0)
 
   pub bounds-told : (b : Bool) → b ≡ inBounds → b ≡ true → Bounds r
-  unfolding boundsOk
+  unfolding boundsFit
   bounds-told b e h =
       let t : every boundsOf ≡ true = sym e ∙ h in
       record { baseFits = leb-true _ _ (every-at boundsOf t 3); dueFits = leb-true _ _ (every-at boundsOf t 7) }
 
   pub bounds-fail : (b : Bool) → b ≡ inBounds → b ≡ false → false ≡ consistentOf 32 32 r
-  unfolding consistentOf boundsOk
-  bounds-fail b e h =
-      every-front (eqb (length (r .marks)) 32 ∷ eqb (length (r .holds)) 32 ∷ boundsOf) (placesOf r)
-      (every-later _ _ (every-later _ _ (sym h ∙ e)))
+  unfolding consistentOf
+  bounds-fail b e h = every-fails (consistencyTests 32 32 r) 2 (sym e ∙ h)
 
   pub base-fails : (at : ℕ) → at ≡ r .base .0 % 32 → getD (r .marks) at 0 ≡ 1 → false ≡ consistentOf 32 32 r
   unfolding consistentOf
   base-fails at a e =
-      every-fails (consistencyTests 32 32 r) 10 (ap not (eq-eqb (markAt 32 r (r .base .0)) 1 (rw a at e)))
+      every-fails (consistencyTests 32 32 r) 3 (ap not (eq-eqb (markAt 32 r (r .base .0)) 1 (rw a at e)))
 
   pub end-fails : r .base .0 + 32 < r .end .0 → false ≡ consistentOf 32 32 r
   unfolding consistentOf
-  end-fails h = every-fails (consistencyTests 32 32 r) 11 (lt-leb (r .end .0) (r .base .0 + 32) h)
+  end-fails h = every-fails (consistencyTests 32 32 r) 4 (lt-leb (r .end .0) (r .base .0 + 32) h)
 
   -- the flag that the loops raise, and what lies above the full range
   abbrev placed : List Bool
@@ -166,26 +154,26 @@ module _ (r : Receiver) where
       clash flag t
       (e
       ∙ ap not
-      (every-made _ _ (sym (marks-placed 32 r) ∙ every-at (consistencyTests 32 32 r) h 13)
-      (every-made _ _ (every-at heldTests (sym (holds-placed 32 r) ∙ every-at (consistencyTests 32 32 r) h 14) 0) every-none))))
+      (every-made _ _ (sym (marks-placed 32 r) ∙ every-at (consistencyTests 32 32 r) h 6)
+      (every-made _ _ (every-at heldTests (sym (holds-placed 32 r) ∙ every-at (consistencyTests 32 32 r) h 7) 0) every-none))))
 
   pub beyond-fails : (high : Bool) → high ≡ not low → high ≡ true → false ≡ consistentOf 32 32 r
   unfolding consistentOf
   beyond-fails high e t =
-      sym (not-so _ λ h. clash high t (e ∙ ap not (every-at heldTests (sym (holds-placed 32 r) ∙ every-at (consistencyTests 32 32 r) h 14) 1)))
+      sym (not-so _ λ h. clash high t (e ∙ ap not (every-at heldTests (sym (holds-placed 32 r) ∙ every-at (consistencyTests 32 32 r) h 7) 1)))
 
   -- all but the number before end
   module _ (marksSized : length (r .marks) ≡ 32) (holdsSized : length (r .holds) ≡ 32) (b : Bool) (bounds : b ≡ inBounds) (t : b ≡ true)
       (at : ℕ) (place : at ≡ r .base .0 % 32) (base : getD (r .marks) at 0 ≡ 1 → ⊥) (near : r .end .0 ≤ r .base .0 + 32)
       (flag : Bool) (places : flag ≡ not (every placed)) (lowered : flag ≡ false) (high : Bool) (above : high ≡ not low) (none : high ≡ false) where
     decided : endStands r ≡ consistentOf 32 32 r
-    unfolding consistentOf boundsOk
+    unfolding consistentOf
     decided =
         let each : every placed ≡ true = not-false _ (sym places ∙ lowered) in
         every-one (endStands r) _ (every-made _ _ (marks-placed 32 r ∙ every-at placed each 0) (every-made _ _ (holds-placed 32 r ∙ every-made _ _ (every-at placed each 1) (every-made _ _ (not-false _ (sym above ∙ none)) every-none)) (every-made _ _ (spare-marks r) (every-made _ _ (spare-holds r) every-none))))
         ∙ every-skip _ _ (le-leb (r .end .0) (r .base .0 + 32) near)
         ∙ every-skip _ _ (ap not (ne-eqb (markAt 32 r (r .base .0)) 1 (rw place at base)))
-        ∙ every-back boundsOf (placesOf r) (sym bounds ∙ t)
+        ∙ every-skip _ _ (sym bounds ∙ t)
         ∙ every-skip _ _ (eq-eqb (length (r .holds)) 32 holdsSized)
         ∙ every-skip _ _ (eq-eqb (length (r .marks)) 32 marksSized)
 
@@ -198,46 +186,3 @@ module _ (r : Receiver) where
 -- an array's length, told of its elements' machine values, is its elements'
 pub unmapped : (X Y : Type 0) (f : X → Y) (l : List X) (n : ℕ) → length (map f l) ≡ n → length l ≡ n
 unmapped X Y f l n p = sym (length-map l f) ∙ p
-
--- the store's size
-pub size-unasked : (t : Bool) (size : ℕ) → t ≡ false → false ≡ soundBy t size
-unfolding soundBy
-size-unasked t size h = every-fails (t ∷ eqb size 39200 ∷ []) 0 h
-
-pub size-asked : (t : Bool) (size : ℕ) → t ≡ true → eqb size 39200 ≡ soundBy t size
-unfolding soundBy
-size-asked t size h = every-last (eqb size 39200) ∙ every-skip _ _ h
-
-pub sound-is : (r : Receiver) (size : ℕ) (t b : Bool) → t ≡ consistentOf 32 32 r → b ≡ soundBy t size → b ≡ soundOf 32 32 r size
-unfolding soundBy soundOf
-sound-is r size t b e h = h ∙ ap (λ (x : Bool). every (x ∷ eqb size 39200 ∷ [])) e
-
--- WHAT A CONSISTENT RECORD TELLS
-
-pub record Facts (r : Receiver) : Type 0 where
-  pub marksSized : length (r .marks) ≡ 32
-  pub holdsSized : length (r .holds) ≡ 32
-  pub baseFrom : r .firstdata .0 ≤ r .base .0
-  pub baseFits : r .base .0 ≤ 4294967296
-  pub dueFits : r .due .0 ≤ 4294967296
-  pub endNear : r .end .0 ≤ r .base .0 + 32
-  pub holds : (i : ℕ) → i < 32 → holdOk 32 r i ≡ true
-
-pub facts : (r : Receiver) → consistentOf 32 32 r ≡ true → Facts r
-unfolding consistentOf
-facts r h =
-    record {
-      marksSized = eqb-true _ _ (every-at (consistencyTests 32 32 r) h 0);
-      holdsSized = eqb-true _ _ (every-at (consistencyTests 32 32 r) h 1);
-      baseFrom = leb-true _ _ (every-at (consistencyTests 32 32 r) h 4);
-      baseFits = leb-true _ _ (every-at (consistencyTests 32 32 r) h 5);
-      dueFits = leb-true _ _ (every-at (consistencyTests 32 32 r) h 9);
-      endNear = leb-true _ _ (every-at (consistencyTests 32 32 r) h 11);
-      holds = all-at (holdOk 32 r) 32 (every-at (consistencyTests 32 32 r) h 14);
-    }
-
-pub sound-told : (r : Receiver) (size : ℕ) (t b : Bool) → t ≡ consistentOf 32 32 r → b ≡ soundBy t size → b ≡ true → (consistentOf 32 32 r ≡ true) × (size ≡ 39200)
-unfolding soundBy
-sound-told r size t b e s h =
-    let q : every (t ∷ eqb size 39200 ∷ []) ≡ true = sym s ∙ h in
-    (sym e ∙ every-at (t ∷ eqb size 39200 ∷ []) q 0, eqb-true size 39200 (every-at (t ∷ eqb size 39200 ∷ []) q 1))

@@ -5,6 +5,7 @@ use mathlib.Core.Bool.{true, false}
 use mathlib.Core.List.{List, _++_, map}
 use mathlib.Core.Path.{_≡_, sym, _∙_, ap, subst}
 use native.Mathlib.Omega.{arith}
+use Rattle.window.specs.Store.{placeSize}
 use Rattle.window.specs.Members.{In}
 use Rattle.window.specs.Free.{free-all}
 use Rattle.receiver.specs.Record.{State}
@@ -44,17 +45,17 @@ module _ (w cap : ℕ) (s : State) (ds : List (List ℕ)) (set : Set w cap s ds)
 
   -- The same with nothing asked of the end: w takes with room for any block leave nothing ready.
   pub any-order-taken : (es : List Event) → From ds es → Covers ds es
-      → (takeAnswer w cap (runOf w cap s (es ++ takesOf w)) 1225 ≡ 11)
+      → (takeAnswer w cap (runOf w cap s (es ++ takesOf w)) placeSize ≡ 11)
       × (handedOf w cap s (es ++ takesOf w) ≡ readyOf w s ds)
       × (runOf w cap s (es ++ takesOf w) .receiver ≡ determinedOf w (s .receiver) (itemsOf s ds))
   any-order-taken es from covers =
       let g = run-good w cap s ds set es from (good-outset w cap s ds set) in
-      let ready : takeAnswer w cap (runOf w cap s (es ++ takesOf w)) 1225 ≡ 11 =
-      ap (λ (x : State). takeAnswer w cap x 1225) (run-append w cap s es (takesOf w))
-      ∙ drained w cap s ds set w g (omega (arith, g .blocks .holds .weak .from)) 1225 in
+      let ready : takeAnswer w cap (runOf w cap s (es ++ takesOf w)) placeSize ≡ 11 =
+      ap (λ (x : State). takeAnswer w cap x placeSize) (run-append w cap s es (takesOf w))
+      ∙ drained w cap s ds set w g (omega (arith, g .blocks .holds .weak .from)) placeSize in
       let f : From ds (es ++ takesOf w) = λ d i. from d (subst (λ (l : List (List ℕ)). In d l) (takes-bring es w) i) in
       let c : Covers ds (es ++ takesOf w) = λ d i. subst (λ (l : List (List ℕ)). In d l) (sym (takes-bring es w)) (covers d i) in
-      let (handed, determined) = any-order (es ++ takesOf w) f c 1225 ready in
+      let (handed, determined) = any-order (es ++ takesOf w) f c placeSize ready in
       (ready, handed, determined)
 
   -- The run is unbroken: the outset or the set has every block from due up to where it ends, and not the one there.

@@ -6,6 +6,7 @@ use mathlib.Core.Path.{_≡_, _∙_, ap, subst}
 use native.Mathlib.Omega.{arith}
 use lib.ListN.{length, drop, length-drop}
 use lib.Seq.{length-take-le}
+use Rattle.window.specs.Store.{placeSize}
 use Rattle.wire.specs.declared.Packet.{Packet}
 use Rattle.wire.specs.declared.Reading.the-variants.{Read}
 use Rattle.wire.specs.Flags.{dataIn}
@@ -20,7 +21,7 @@ pub record Block (d : List ℕ) (p : Packet) : Type 0 where
   pub wide : 8 ≤ length d
   pub place : 7 ≤ p .body
   pub inside : p .body + p .bytes ≤ length d
-  pub short : p .bytes ≤ 1225
+  pub short : p .bytes ≤ placeSize
   pub long : length (bodyIn d p) ≡ p .bytes
 
 -- the header, DataHeader and ChannelSeqNum stand before the body

@@ -13,6 +13,7 @@ use Rattle.common.specs.EveryLaws.{AllTrue, every-all}
 use Rattle.common.specs.Facts.{clash}
 use Rattle.common.specs.Order.{first}
 use Rattle.numbers.specs.Widen.{widenOf}
+use Rattle.window.specs.Store.{storeSize}
 use Rattle.window.specs.Members.{In}
 use Rattle.wire.specs.declared.Reading.the-variants.{Read}
 use Rattle.wire.specs.Flags.{dataIn, outside, sixOf}
@@ -25,7 +26,7 @@ use Rattle.window.specs.Places.{always}
 use Rattle.receiver.specs.Record.{State, isMarked, isHeld, empty, markAt, holdAt}
 use Rattle.receiver.specs.Fresh.{freshOf}
 use Rattle.receiver.specs.Packet.{Packet}
-use Rattle.receiver.specs.Receive.{onSome, dataNumber, channelNumber, aoaNumber, packetFrom}
+use Rattle.receiver.specs.Receive.{onSome, dataNumber, channelNumber, ifFlagged, packetFrom}
 use Rattle.receiver.specs.Determined.{inside, heldIn}
 use Rattle.receiver.specs.Facts.{Facts, facts-sound}
 use Rattle.receiver.specs.Set.{Readable, Fits, Set, packetAt}
@@ -57,7 +58,7 @@ fresh-facts w cap n c ln lc =
     }
 
 abbrev pub fresh : State
-fresh = record { receiver = freshOf 32 0 0; store = replicate (32 * 1225) 0 }
+fresh = record { receiver = freshOf 32 0 0; store = replicate (storeSize 32) 0 }
 
 pub none-held : (c : ℕ) → heldIn 32 (fresh .receiver) c ≡ false
 unfolding heldIn
@@ -107,7 +108,7 @@ Brings d p =
     × (packetFrom (fresh .receiver) (found d .values) (bodyIn d (found d)) ≡ some p)
 
 three-bring : Brings five one × Brings waiving two × Brings late last
-unfolding every readOf readPacket first swapped droppedBy endOf outside sixOf ackEnd overheadEnd delayEnd aoaEnd numberEnd vectorEnd channelEnd valuesOf packetOf partOf packetFrom onSome dataNumber channelNumber aoaNumber widenOf
+unfolding every readOf readPacket first swapped droppedBy endOf outside sixOf ackEnd overheadEnd delayEnd aoaEnd numberEnd vectorEnd channelEnd valuesOf packetOf partOf packetFrom onSome dataNumber channelNumber ifFlagged widenOf
 three-bring = ((refl, refl, refl, refl), (refl, refl, refl, refl), (refl, refl, refl, refl))
 
 -- one of the three
@@ -142,7 +143,7 @@ three-are-a-set =
       some = omega arith;
       small = omega arith;
       fits = omega arith;
-      outset = facts-sound 32 32 (fresh .receiver) _ (fresh-facts 32 32 0 0 (omega arith) (omega arith)) (length-replicate {A = ℕ} (32 * 1225) 0);
+      outset = facts-sound 32 32 (fresh .receiver) _ (fresh-facts 32 32 0 0 (omega arith) (omega arith)) (length-replicate {A = ℕ} (storeSize 32) 0);
       readable = λ d i. readable (shown d i);
       bounds = λ d i. subst (λ (p : Packet). Fits 32 (fresh .receiver) p) (sym (packet-is (shown d i))) (shown d i .fits);
       agree = λ d e i j q. block-is (shown d i) ∙ ap (λ (c : ℕ). cond (eqb c 3) (0x07 ∷ []) []) q ∙ sym (block-is (shown e j));

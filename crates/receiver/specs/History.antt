@@ -3,6 +3,7 @@ use Prim.Native.Nat.{ℕ, zero, suc}
 use mathlib.Core.Bool.{cond}
 use mathlib.Core.List.{List, [], _∷_, _++_}
 use lib.Dec.{eqb}
+use Rattle.window.specs.Store.{placeSize}
 use Rattle.receiver.specs.Record.{State}
 use Rattle.receiver.specs.Take.{takeAnswer, blockDue, takenOf}
 use Rattle.receiver.specs.Receive.{receiveOf}
@@ -41,4 +42,4 @@ datagramsOf (takes room ∷ es) = datagramsOf es
 -- k takes, with room for any block
 unfoldable pub takesOf : ℕ → List Event
 takesOf zero = []
-takesOf (suc k) = takes 1225 ∷ takesOf k
+takesOf (suc k) = takes placeSize ∷ takesOf k

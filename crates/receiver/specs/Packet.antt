@@ -8,10 +8,12 @@ use lib.ListN.{length, set}
 use lib.Dec.{eqb, leb, ltb}
 use Rattle.common.specs.Put.{putOf}
 use Rattle.common.specs.Order.{Test, test, first}
+use Rattle.numbers.specs.Full.{highest}
+use Rattle.window.specs.Store.{storePlace}
 use Rattle.window.specs.Window.{Win, put, lifted, slid}
 use Rattle.receiver.specs.declared.Hold.{Hold}
 use Rattle.receiver.specs.declared.Receiver.{Receiver}
-use Rattle.receiver.specs.Record.{highest, State, isMarked, isHeld, holding, marksOf, holdAt, storePlace}
+use Rattle.receiver.specs.Record.{State, isMarked, isHeld, holding, marksOf, holdAt}
 
 -- a packet of data
 pub record Packet : Type 0 where
@@ -31,26 +33,25 @@ abbrev pub waived : Option ℕ → ℕ
 waived none = 0
 waived (some v) = v
 
--- "numbers above the full range are 7"
-abbrev pub aoaHigh : Option ℕ → Bool
-aoaHigh none = false
-aoaHigh (some v) = ltb highest v
-
-abbrev pub packetTests : ℕ → Receiver → Packet → List Test
-packetTests w r p =
-    test (aoaHigh (p .aoa)) 7
-    ∷ test (ltb highest (p .number)) 7
-    ∷ test (leb (max (r .base .0) (waived (p .aoa)) + w) (p .number)) 7
-    ∷ test (ltb highest (p .channel)) 7
-    ∷ test (leb (r .due .0 + w) (p .channel)) 7
+-- the refusal of a packet by its numbers: all below v is waived, n is its data number and c its channel number
+abbrev pub numberTests : ℕ → ℕ → ℕ → ℕ → ℕ → ℕ → List Test
+numberTests w base due v n c =
+    test (ltb highest v) 7
+    ∷ test (ltb highest n) 7
+    ∷ test (leb (max base v + w) n) 7
+    ∷ test (ltb highest c) 7
+    ∷ test (leb (due + w) c) 7
     ∷ []
 
-unfoldable pub packetAnswer : ℕ → Receiver → Packet → ℕ
-packetAnswer w r p = first (packetTests w r p)
+unfoldable pub numbersAnswer : ℕ → ℕ → ℕ → ℕ → ℕ → ℕ → ℕ
+numbersAnswer w base due v n c = first (numberTests w base due v n c)
+
+abbrev pub packetAnswer : ℕ → Receiver → Packet → ℕ
+packetAnswer w r p = numbersAnswer w (r .base .0) (r .due .0) (waived (p .aoa)) (p .number) (p .channel)
 
 unfoldable pub arrivalAnswer : ℕ → Receiver → Arrival → ℕ
 arrivalAnswer w r nothing = 0
-arrivalAnswer w r (waiver v) = first (test (aoaHigh (some v)) 7 ∷ [])
+arrivalAnswer w r (waiver v) = first (test (ltb highest v) 7 ∷ [])
 arrivalAnswer w r (content p) = packetAnswer w r p
 
 -- number n is marked, "unless below base"
@@ -62,8 +63,11 @@ abbrev pub marksAfter : ℕ → Receiver → Packet → Win ℕ
 marksAfter w r p = slid 0 w isMarked w (marked w (lifted 0 w (waived (p .aoa)) (marksOf r)) (p .number))
 
 -- "A block below due, or already held, is a repeat: the first copy stays."
-unfoldable pub keeps : ℕ → Receiver → ℕ → Bool
-keeps w r c = cond (ltb c (r .due .0)) false (not (isHeld (holdAt w r c)))
+unfoldable pub isNew : ℕ → ℕ → Hold → Bool
+isNew due c h = cond (ltb c due) false (not (isHeld h))
+
+abbrev pub keeps : ℕ → Receiver → ℕ → Bool
+keeps w r c = isNew (r .due .0) c (holdAt w r c)
 
 abbrev pub holdsAfter : ℕ → Receiver → Packet → List Hold
 holdsAfter w r p = cond (keeps w r (p .channel)) (set (r .holds) (p .channel % w) (holding (length (p .block)))) (r .holds)

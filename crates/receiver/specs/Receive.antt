@@ -35,9 +35,12 @@ dataNumber r f = inPlace (r .firstdata .0) (widenOf (r .base .0) f)
 unfoldable pub channelNumber : Receiver → ℕ → Option ℕ
 channelNumber r f = inPlace (r .firstchannel .0) (widenOf (r .due .0) f)
 
--- an AckOfAcks where it is flagged
-unfoldable pub aoaNumber : Receiver → Bool → ℕ → Option (Option ℕ)
-aoaNumber r flag f = cond flag (onSome (dataNumber r f) (λ v. some (some v))) (some none)
+-- an AckOfAcks where it is flagged, v what its field stands for
+unfoldable pub ifFlagged : Bool → Option ℕ → Option (Option ℕ)
+ifFlagged flag v = cond flag (onSome v (λ n. some (some n))) (some none)
+
+abbrev pub aoaNumber : Receiver → Bool → ℕ → Option (Option ℕ)
+aoaNumber r flag f = ifFlagged flag (dataNumber r f)
 
 -- what a packet's values bring the receiver; none where a number is out of place
 unfoldable pub packetFrom : Receiver → Values → List ℕ → Option Packet

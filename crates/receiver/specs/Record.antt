@@ -1,16 +1,12 @@
 -- The receiver's record, over a window of w. "The record is base, end, next channel due, and which of 32 places are received, and which held, with the length."
-use Prim.Native.Nat.{ℕ, _%_, _*_}
+use Prim.Native.Nat.{ℕ}
 use mathlib.Core.Bool.{Bool}
 use mathlib.Core.List.{List}
-use lib.ListN.{take, drop}
 use lib.Dec.{eqb}
+use Rattle.window.specs.Store.{storedAt}
 use Rattle.window.specs.Window.{Win, here}
 use Rattle.receiver.specs.declared.Hold.{Hold}
 use Rattle.receiver.specs.declared.Receiver.{Receiver}
-
--- "Full numbers run to 4,294,967,295"
-abbrev pub highest : ℕ
-highest = 4294967295
 
 -- a record and the store that is lent with it
 pub record State : Type 0 where
@@ -47,10 +43,6 @@ markAt w r n = here 0 w (marksOf r) n
 abbrev pub holdAt : ℕ → Receiver → ℕ → Hold
 holdAt w r c = here empty w (holdsOf r) c
 
--- "Block c has place c modulo 32, 1,225 bytes of the store"
-abbrev pub storePlace : ℕ → ℕ → ℕ
-storePlace w c = c % w * 1225
-
 -- the bytes of block c, as its place has them
 unfoldable pub contents : ℕ → State → ℕ → List ℕ
-contents w s c = take (holdAt w (s .receiver) c .length) (drop (storePlace w c) (s .store))
+contents w s c = storedAt w (s .store) c (holdAt w (s .receiver) c .length)

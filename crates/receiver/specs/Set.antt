@@ -5,6 +5,7 @@ use mathlib.Core.List.{List, []}
 use mathlib.Core.Option.{Option, none, some}
 use mathlib.Core.Path.{_≡_}
 use lib.ListN.{length}
+use Rattle.numbers.specs.Full.{highest}
 use Rattle.window.specs.Members.{In}
 use Rattle.wire.specs.declared.Packet.{Packet as Taken}
 use Rattle.wire.specs.declared.Reading.{Reading}
@@ -13,7 +14,7 @@ use Rattle.wire.specs.Flags.{dataIn}
 use Rattle.wire.specs.Read.{readOf}
 use Rattle.wire.specs.Same.{bodyIn, Bytes}
 use Rattle.receiver.specs.declared.Receiver.{Receiver}
-use Rattle.receiver.specs.Record.{highest, State, contents}
+use Rattle.receiver.specs.Record.{State, contents}
 use Rattle.receiver.specs.Consistent.{soundOf}
 use Rattle.receiver.specs.Packet.{Packet}
 use Rattle.receiver.specs.Receive.{packetFrom}

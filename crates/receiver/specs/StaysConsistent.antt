@@ -5,6 +5,7 @@ use mathlib.Core.Bool.{true}
 use mathlib.Core.List.{List}
 use mathlib.Core.Path.{_≡_}
 use lib.ListN.{length}
+use Rattle.window.specs.Store.{placeSize}
 use Rattle.receiver.specs.Record.{State}
 use Rattle.receiver.specs.Consistent.{soundOf}
 use Rattle.receiver.specs.Packet.{Packet, Arrival, packetOf, arrivalOf}
@@ -14,7 +15,7 @@ use Rattle.receiver.specs.Keeping.Brought.{Short}
 use Rattle.receiver.specs.Keeping.Calls.{packet-sound, arrival-sound, take-sound, receive-sound}
 
 -- A packet of data, whose block has at most 1,225 bytes.
-pub packet-keeps : (w cap : ℕ) (s : State) (p : Packet) → 0 < w → w ≤ cap → length (p .block) ≤ 1225
+pub packet-keeps : (w cap : ℕ) (s : State) (p : Packet) → 0 < w → w ≤ cap → length (p .block) ≤ placeSize
     → soundOf w cap (s .receiver) (length (s .store)) ≡ true
     → soundOf w cap (packetOf w s p .receiver) (length (packetOf w s p .store)) ≡ true
 packet-keeps w cap s p pos fits short h = packet-sound w cap s p pos fits short h

@@ -2,54 +2,57 @@
 ghost use mathlib.Core.Path.{_≡_};
 ghost use mathlib.Core.Bool.{not};
 ghost use Rattle.common.specs.Every.{allBelow};
-ghost use Rattle.receiver.specs.Consistent.{consistentOf, soundOf};
-ghost use Rattle.receiver.specs.Checking.{boundsOk, markFine, holdKept, heldLow, soundBy};
+ghost use Rattle.receiver.specs.Consistent.{boundsFit, markFits, holdFits, consistentOf};
+ghost use Rattle.receiver.specs.Checking.{heldLow};
 use crate::Hold;
 use crate::Receiver;
 use numbers::DataNumber;
 
+// The longest block that is held, as a place has its length.
+const LONGEST: u16 = window::PLACE as u16;
+
 // Do the firsts, base, end and due lie in their ranges?
-fn bounds_ok(firstdata: u64, firstchannel: u64, base: u64, end: u64, due: u64) -> bool
-    ensures { λ r. ⌜ r ≡ boundsOk firstdata firstchannel base end due ⌝ }
+fn bounds_fit(firstdata: u64, firstchannel: u64, base: u64, end: u64, due: u64) -> bool
+    ensures { λ r. ⌜ r ≡ boundsFit firstdata firstchannel base end due ⌝ }
 {
-    if 65535 < firstdata {
+    if numbers::FIRST < firstdata {
         return false;
     }
-    if 65535 < firstchannel {
+    if numbers::FIRST < firstchannel {
         return false;
     }
     if base < firstdata {
         return false;
     }
-    if crate::PAST < base {
+    if numbers::PAST < base {
         return false;
     }
     if end < firstdata {
         return false;
     }
-    if crate::PAST < end {
+    if numbers::PAST < end {
         return false;
     }
     if due < firstchannel {
         return false;
     }
-    due <= crate::PAST
+    due <= numbers::PAST
 }
 
 // Is what stands at a number's place neither a mark below end nor none? The number lies `past` numbers past base, and `span`
 // numbers from base on lie below end.
 fn mark_wrong(m: u8, past: u8, span: u8) -> bool
-    ensures { λ r. ⌜ r ≡ not (markFine m past span) ⌝ }
+    ensures { λ r. ⌜ r ≡ not (markFits m past span) ⌝ }
 {
     (1 < m) | ((m == 1) & (span <= past))
 }
 
-// Is what stands at a block's place neither a block that can be, whatever its number, nor nothing at all?
+// Is what stands at a block's place neither a block that can be (say block 0: its number is not looked at) nor nothing at all?
 fn hold_wrong(h: Hold) -> bool
-    ensures { λ r. ⌜ r ≡ not (holdKept h) ⌝ }
+    ensures { λ r. ⌜ r ≡ not (holdFits h 0) ⌝ }
 {
     let held = h.held == 1;
-    (held & (crate::LONGEST < h.length)) | (!held & ((h.held != 0) | (h.length != 0)))
+    (held & (LONGEST < h.length)) | (!held & ((h.held != 0) | (h.length != 0)))
 }
 
 // Is a block held that is not among the first `room` blocks from due on? Where room is the whole window, none can be.
@@ -77,10 +80,10 @@ pub fn consistent(r: Receiver) -> bool
     let base = r.base.0;
     let end = r.end.0;
     let due = r.due.0;
-    if !bounds_ok(r.firstdata.0, r.firstchannel.0, base, end, due) {
+    if !bounds_fit(r.firstdata.0, r.firstchannel.0, base, end, due) {
         return false;
     }
-    let at = window::data_place(base);
+    let at = window::data_place(r.base);
     if r.marks[at] == 1 {
         return false;
     }
@@ -107,30 +110,13 @@ pub fn consistent(r: Receiver) -> bool
         return false;
     }
     // No block above the full range is held.
-    if beyond(r.holds, due, window::count(due, crate::PAST)) {
+    if beyond(r.holds, due, window::count(due, numbers::PAST)) {
         return false;
     }
     // Where end lies above base, the number before it is marked.
     if base < end {
-        let at = window::data_place(end - 1);
+        let at = window::data_place(DataNumber(end - 1));
         return r.marks[at] == 1;
     }
     true
-}
-
-// Is a record sound, once it is known whether it is consistent? The lent store must be of the right size.
-pub fn sized(consistent: bool, size: usize) -> bool
-    ensures { λ b. ⌜ b ≡ soundBy consistent size ⌝ }
-{
-    if !consistent {
-        return false;
-    }
-    size == crate::STORE
-}
-
-// Is the record consistent, and the lent store of the right size?
-pub fn sound(r: Receiver, size: usize) -> bool
-    ensures { λ b. ⌜ b ≡ soundOf 32 32 r size ⌝ }
-{
-    sized(consistent(r), size)
 }

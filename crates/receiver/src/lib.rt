@@ -9,19 +9,6 @@ pub mod checking;
 use numbers::ChannelNumber;
 use numbers::DataNumber;
 
-// The size of the store, and of a block's place in it.
-pub const STORE: usize = 39200;
-
-pub const PLACE: usize = 1225;
-
-// The longest block.
-pub const LONGEST: u16 = 1225;
-
-// The highest full number, and one past it, where base, end and due may stand.
-pub const HIGHEST: u64 = 4294967295;
-
-pub const PAST: u64 = HIGHEST + 1;
-
 // A place for a block.
 #[repr(C)]
 pub struct Hold {

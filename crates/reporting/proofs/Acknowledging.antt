@@ -21,7 +21,7 @@ use Rattle.wire.specs.Round.Framing.{framed-length}
 use Rattle.receiver.specs.declared.Receiver.{Receiver}
 use Rattle.receiver.specs.Acknowledge.{statesOf, allThere, ackValues, vectorValues, acknowledgementOf, acknowledgeAnswer}
 use Rattle.receiver.specs.Consistent.{consistentOf}
-use Rattle.receiver.proofs.Consistency.{facts}
+use Rattle.receiver.specs.Facts.{consistent-facts}
 use Rattle.reporting.proofs.Vectors.{Coded}
 
 -- values that pass every test of a write
@@ -180,7 +180,7 @@ module _ (w cap : ℕ) (r : Receiver) (stamp gap : ℕ) (out : List ℕ) (b : Bo
 
 -- base past the first is not 0
 pub past-first : (r : Receiver) → consistentOf 32 32 r ≡ true → (r .base .0 ≡ r .firstdata .0 → ⊥) → 1 ≤ r .base .0
-past-first r h n = let l = facts r h .baseFrom in go (ltb 0 (r .base .0)) refl l
+past-first r h n = let l = consistent-facts 32 32 r h .baseFrom in go (ltb 0 (r .base .0)) refl l
   where
     go : (t : Bool) → ltb 0 (r .base .0) ≡ t → r .firstdata .0 ≤ r .base .0 → 1 ≤ r .base .0
     go true e l = ltb-true 0 (r .base .0) e

@@ -20,7 +20,7 @@ use Rattle.receiver.specs.declared.Receiver.{Receiver}
 use Rattle.receiver.specs.Record.{isMarked, markAt}
 use Rattle.receiver.specs.Consistent.{consistentOf}
 use Rattle.receiver.specs.Acknowledge.{statesFrom, statesOf}
-use Rattle.receiver.proofs.Consistency.{facts}
+use Rattle.receiver.specs.Facts.{consistent-facts}
 
 -- one number more
 states-more : (w : ℕ) (r : Receiver) (n k : ℕ) → statesFrom w r n (suc k) ≡ statesFrom w r n k ++ (isMarked (markAt w r (n + k)) ∷ [])
@@ -60,7 +60,7 @@ module _ (r : Receiver) (h : consistentOf 32 32 r ≡ true) (ss : List Bool) (st
     (x : Written) (out coded : List ℕ) (room : length out ≡ 32) (answer : x ≡ writtenOf (answerOf ss (length out)) (vectorOf ss))
     (bytes : coded ≡ leftOf (answerOf ss (length out)) (vectorOf ss) out) where
   few : length ss ≤ 32
-  few = let e = ap length states ∙ states-length 32 r (r .base .0) (r .end .0 - r .base .0) in omega (arith, e, facts r h .endNear)
+  few = let e = ap length states ∙ states-length 32 r (r .base .0) (r .end .0 - r .base .0) in omega (arith, e, consistent-facts 32 32 r h .endNear)
 
   short : length (vectorOf ss) ≤ 32
   short = omega (arith, vector-short ss, few)

@@ -10,6 +10,7 @@ ghost use Rattle.wire.specs.Write.{datagramOf};
 ghost use Rattle.receiver.specs.Consistent.{consistentOf};
 ghost use Rattle.receiver.specs.Acknowledge.{statesOf, ackValues, vectorValues};
 use common::Written;
+use numbers::DataNumber;
 use receiver::Receiver;
 use wire::Ack;
 use wire::Delay;
@@ -76,7 +77,7 @@ pub(crate) fn write_vector(r: Receiver, out: &mut [u8]) -> Written
     let mut states = [false; 32];
     let mut i: usize = 0;
     while i < n {
-        let at = window::data_place(from + i as u64);
+        let at = window::data_place(DataNumber(from + i as u64));
         let m = r.marks[at];
         states[i] = m == 1;
         i += 1;

@@ -17,7 +17,7 @@ use Rattle.window.specs.EachPlace.{countOf, all-placed, past-from}
 use Rattle.sender.specs.declared.NumberPlace.{NumberPlace}
 use Rattle.sender.specs.declared.BlockPlace.{BlockPlace}
 use Rattle.sender.specs.declared.Sender.{Sender}
-use Rattle.sender.specs.Record.{isPending, noNumber, noBlock, numberAt}
+use Rattle.sender.specs.Record.{longestSent, isPending, noNumber, noBlock, numberAt}
 use Rattle.sender.specs.Consistent.{zeroNumber, zeroBlock, blockFits, carries, numberOk, blockOk, consistentOf}
 use Rattle.sender.specs.PlaceTests.{zero-number, number-past}
 use Rattle.sender.proofs.Passing.{consistent-passes, passes-consistent, Begun, data-range, begun-passes}
@@ -52,11 +52,11 @@ state-wrong (suc (suc (suc (suc n)))) single = rw (far 0 (omega arith), lt-ltb 3
 
 pub block-wrong-is : (b : BlockPlace) (single : Bool) (past count : ℕ)
     → ((leb count past && (not (eqb (b .state) 0) || not (eqb (b .length) 0)))
-    || (not (leb count past) && (ltb 1223 (b .length) || ((eqb (b .state) 0 || ltb 3 (b .state)) || (eqb (b .state) 1 && not single))))) ≡ not (blockFits b single past count)
+    || (not (leb count past) && (ltb longestSent (b .length) || ((eqb (b .state) 0 || ltb 3 (b .state)) || (eqb (b .state) 1 && not single))))) ≡ not (blockFits b single past count)
 unfolding blockFits zeroBlock every
 block-wrong-is b single past count =
-    rw (ltb-not 1223 (b .length), state-wrong (b .state) single)
-    (go (leb count past) (eqb (b .state) 0) (eqb (b .length) 0) (leb (b .length) 1223)
+    rw (ltb-not longestSent (b .length), state-wrong (b .state) single)
+    (go (leb count past) (eqb (b .state) 0) (eqb (b .length) 0) (leb (b .length) longestSent)
     (cond (eqb (b .state) 1) single (cond (eqb (b .state) 2) true (eqb (b .state) 3))))
   where
     go : (outside vacant none short state : Bool)
@@ -105,47 +105,47 @@ numbers-placed w s i e u h = same-bool _ _ forth back ∙ unused-placed w s
         (lt-or-ge j i)
 
 -- no number past next is pending, so the marks of those before it are all
-all-marked : (s : Sender) (marks : List Bool) (i : ℕ) → s .low .0 + i ≡ s .next .0 → i ≤ 32 → allBelow (numberOk 32 s) 32 ≡ true → Marked s marks i → Marked s marks 32
+all-marked : (w : ℕ) (s : Sender) (marks : List Bool) (i : ℕ) → s .low .0 + i ≡ s .next .0 → i ≤ w → allBelow (numberOk w s) w ≡ true → Marked w s marks i → Marked w s marks w
 unfolding numberOk
-all-marked s marks i e u h m =
+all-marked w s marks i e u h m =
     record {
       size = m .size;
       counts = λ c l k.
           m .counts c l k
-          ∙ sym (count-short (carries 32 s c) i 32 u λ j lj uj.
-          carries-not s c j (ap (λ (p : NumberPlace). isPending p) (zero-number _ (sym (number-past _ _ _ _ _ _ _ (omega arith)) ∙ all-at (numberOk 32 s) 32 h j uj))));
+          ∙ sym (count-short (carries w s c) i w u λ j lj uj.
+          carries-not w s c j (ap (λ (p : NumberPlace). isPending p) (zero-number _ (sym (number-past _ _ _ _ _ _ _ (omega arith)) ∙ all-at (numberOk w s) w h j uj))));
     }
 
-blocks-placed : (s : Sender) (marks : List Bool) → Marked s marks 32 → allBelow (blockOk 32 s) 32 ≡ allBelow (blockPlaced 32 s marks) 32
+blocks-placed : (w : ℕ) (s : Sender) (marks : List Bool) → Marked w s marks w → allBelow (blockOk w s) w ≡ allBelow (blockPlaced w s marks) w
 unfolding blockOk blockFits
-blocks-placed s marks m =
-    all-placed 32 (s .channellow .0) (blockOk 32 s) (blockPlaced 32 s marks) λ i l.
-    rw (past-from 32 (s .channellow .0) (s .channelnext .0) i l, marks-single s marks m (s .channellow .0 + i) (omega arith) (omega arith)) refl
+blocks-placed w s marks m =
+    all-placed w (s .channellow .0) (blockOk w s) (blockPlaced w s marks) λ i l.
+    rw (past-from w (s .channellow .0) (s .channelnext .0) i l, marks-single w s marks m (s .channellow .0 + i) (omega arith) (omega arith)) refl
 
 -- The whole walk: the numbers below next fit and are marked, and the flag says of all other places whether one is wrong.
-pub judged : (s : Sender) (marks : List Bool) (i : ℕ) (flag : Bool) → Begun s → i ≡ s .next .0 - s .low .0 → allBelow (numberOk 32 s) i ≡ true → Marked s marks i
-    → flag ≡ not (every (allBelow (numberPlaced 32 s) 32 ∷ allBelow (blockPlaced 32 s marks) 32 ∷ [])) → not flag ≡ consistentOf 32 32 s
-judged s marks i flag begun ei h m f = same-bool (not flag) (consistentOf 32 32 s) forth back
+pub judged : (w : ℕ) (s : Sender) (marks : List Bool) (i : ℕ) (flag : Bool) → Begun w s → i ≡ s .next .0 - s .low .0 → allBelow (numberOk w s) i ≡ true → Marked w s marks i
+    → flag ≡ not (every (allBelow (numberPlaced w s) w ∷ allBelow (blockPlaced w s marks) w ∷ [])) → not flag ≡ consistentOf w w s
+judged w s marks i flag begun ei h m f = same-bool (not flag) (consistentOf w w s) forth back
   where
     e : s .low .0 + i ≡ s .next .0
-    e = omega (arith, data-range s begun .forth)
+    e = omega (arith, data-range w s begun .forth)
 
-    u : i ≤ 32
-    u = omega (arith, data-range s begun .room)
+    u : i ≤ w
+    u = omega (arith, data-range w s begun .room)
 
     placed : List Bool
-    placed = allBelow (numberPlaced 32 s) 32 ∷ allBelow (blockPlaced 32 s marks) 32 ∷ []
+    placed = allBelow (numberPlaced w s) w ∷ allBelow (blockPlaced w s marks) w ∷ []
 
-    blocks : allBelow (numberOk 32 s) 32 ≡ true → allBelow (blockOk 32 s) 32 ≡ allBelow (blockPlaced 32 s marks) 32
-    blocks t = blocks-placed s marks (all-marked s marks i e u t m)
+    blocks : allBelow (numberOk w s) w ≡ true → allBelow (blockOk w s) w ≡ allBelow (blockPlaced w s marks) w
+    blocks t = blocks-placed w s marks (all-marked w s marks i e u t m)
 
-    forth : not flag ≡ true → consistentOf 32 32 s ≡ true
+    forth : not flag ≡ true → consistentOf w w s ≡ true
     forth t =
         let each : every placed ≡ true = not-false _ (sym f ∙ not-true flag t) in
-        let ns : allBelow (numberOk 32 s) 32 ≡ true = numbers-placed 32 s i e u h ∙ every-at placed each 0 in
-        sym (passes-consistent s (begun .numbersSized) (begun .blocksSized) (begun-passes s begun ns (blocks ns ∙ every-at placed each 1)))
+        let ns : allBelow (numberOk w s) w ≡ true = numbers-placed w s i e u h ∙ every-at placed each 0 in
+        sym (passes-consistent w s (begun .numbersSized) (begun .blocksSized) (begun-passes w s begun ns (blocks ns ∙ every-at placed each 1)))
 
-    back : consistentOf 32 32 s ≡ true → not flag ≡ true
+    back : consistentOf w w s ≡ true → not flag ≡ true
     back t =
-        let p = consistent-passes s t in
-        ap not (f ∙ ap not (every-made _ _ (sym (numbers-placed 32 s i e u h) ∙ p .numbers) (every-made _ _ (sym (blocks (p .numbers)) ∙ p .blocks) every-none)))
+        let p = consistent-passes w s t in
+        ap not (f ∙ ap not (every-made _ _ (sym (numbers-placed w s i e u h) ∙ p .numbers) (every-made _ _ (sym (blocks (p .numbers)) ∙ p .blocks) every-none)))

@@ -1,15 +1,38 @@
 -- What makes the sender's half of a record inconsistent, in document 01's words, as a list of tests that a consistent record passes.
 -- w places are in use, of cap that the arrays have.
-use Prim.Native.Nat.{ℕ, _+_, _*_}
+use Prim.Native.Nat.{ℕ, _+_}
 use mathlib.Core.Bool.{Bool, true, cond, not}
 use mathlib.Core.List.{List, [], _∷_}
 use lib.ListN.{length, getD}
 use lib.Dec.{eqb, leb, ltb}
 use Rattle.common.specs.Every.{every, allBelow, countBelow, implies}
+use Rattle.numbers.specs.Full.{pastHighest, highestFirst}
+use Rattle.window.specs.Store.{soundWith}
 use Rattle.sender.specs.declared.NumberPlace.{NumberPlace}
 use Rattle.sender.specs.declared.BlockPlace.{BlockPlace}
 use Rattle.sender.specs.declared.Sender.{Sender}
-use Rattle.sender.specs.Record.{isPending, isInFlight, isWaiting, isAcknowledged, numberPasses, noNumber, noBlock, numberAt, blockAt}
+use Rattle.sender.specs.Record.{shortestTimeout, longestTimeout, longestSent, isPending, isInFlight, isWaiting, isAcknowledged, numberPasses, noNumber, noBlock, numberAt, blockAt}
+
+-- "a first .. is outside opening's range"; ".. a next or a low is below its first or above 4,294,967,296"; "one of the sender's two ranges exceeds 32
+-- or runs backwards"
+abbrev pub rangeTests : ℕ → ℕ → ℕ → ℕ → List Bool
+rangeTests w first low next =
+    leb first highestFirst
+    ∷ leb first low
+    ∷ leb low next
+    ∷ leb next pastHighest
+    ∷ leb next (low + w)
+    ∷ []
+
+unfoldable pub rangeFits : ℕ → ℕ → ℕ → ℕ → Bool
+rangeFits w first low next = every (rangeTests w first low next)
+
+-- ".. or the timeout is outside opening's range"
+abbrev pub timeoutTests : ℕ → List Bool
+timeoutTests timeout = leb shortestTimeout timeout ∷ leb timeout longestTimeout ∷ []
+
+unfoldable pub timeoutFits : ℕ → Bool
+timeoutFits timeout = every (timeoutTests timeout)
 
 -- "an unused place is not zero"
 unfoldable pub zeroNumber : NumberPlace → Bool
@@ -46,7 +69,7 @@ oneCarrier w s c = eqb (countBelow (carries w s c) w) 1
 unfoldable pub blockFits : BlockPlace → Bool → ℕ → ℕ → Bool
 blockFits b single c channelnext =
     cond (leb channelnext c) (zeroBlock b)
-    (every (leb (b .length) 1223 ∷ cond (isInFlight b) single (cond (isWaiting b) true (isAcknowledged b)) ∷ []))
+    (every (leb (b .length) longestSent ∷ cond (isInFlight b) single (cond (isWaiting b) true (isAcknowledged b)) ∷ []))
 
 unfoldable pub numberOk : ℕ → Sender → ℕ → Bool
 numberOk w s i =
@@ -69,20 +92,9 @@ consistencyTests w cap s =
     -- the arrays have their places
     eqb (length (s .numbers)) cap
     ∷ eqb (length (s .blocks)) cap
-    -- "a first or the timeout is outside opening's range"
-    ∷ leb (s .firstdata .0) 65535
-    ∷ leb (s .firstchannel .0) 65535
-    ∷ leb 300 (s .timeout)
-    ∷ leb (s .timeout) 60000
-    -- ".. a next or a low is below its first or above 4,294,967,296", "one of the sender's two ranges exceeds 32 or runs backwards"
-    ∷ leb (s .firstdata .0) (s .low .0)
-    ∷ leb (s .low .0) (s .next .0)
-    ∷ leb (s .next .0) 4294967296
-    ∷ leb (s .next .0) (s .low .0 + w)
-    ∷ leb (s .firstchannel .0) (s .channellow .0)
-    ∷ leb (s .channellow .0) (s .channelnext .0)
-    ∷ leb (s .channelnext .0) 4294967296
-    ∷ leb (s .channelnext .0) (s .channellow .0 + w)
+    ∷ rangeFits w (s .firstdata .0) (s .low .0) (s .next .0)
+    ∷ rangeFits w (s .firstchannel .0) (s .channellow .0) (s .channelnext .0)
+    ∷ timeoutFits (s .timeout)
     -- "a low or base stands on a place it should have passed"
     ∷ not (numberPasses (numberAt w s (s .low .0)))
     ∷ not (isAcknowledged (blockAt w s (s .channellow .0)))
@@ -96,6 +108,6 @@ consistencyTests w cap s =
 unfoldable pub consistentOf : ℕ → ℕ → Sender → Bool
 consistentOf w cap s = every (consistencyTests w cap s)
 
--- "a lent block store not 39,200 bytes, or an inconsistent record"
-unfoldable pub soundOf : ℕ → ℕ → Sender → ℕ → Bool
-soundOf w cap s size = every (consistentOf w cap s ∷ eqb size (w * 1225) ∷ [])
+-- the record with its store
+abbrev pub soundOf : ℕ → ℕ → Sender → ℕ → Bool
+soundOf w cap s size = soundWith w (consistentOf w cap s) size

@@ -7,6 +7,7 @@ use native.Mathlib.Omega.{arith}
 use lib.ListN.{length, drop, length-append, length-take}
 use borrow.Author.Tests.{le-ltb}
 use Rattle.common.specs.Order.{first}
+use Rattle.window.specs.Store.{storePlace}
 use Rattle.wire.specs.Frame.{prefixFor}
 use Rattle.wire.specs.Flags.{sixOf, outside}
 use Rattle.wire.specs.Write.{packetBytes, datagramOf, writeAnswer}
@@ -14,7 +15,7 @@ use Rattle.wire.specs.Same.{Says}
 use Rattle.wire.specs.WrittenReadsBack.{written-reads-back}
 use Rattle.wire.specs.Round.Framing.{framed-length}
 use Rattle.common.specs.Answer.{roomAnswer}
-use Rattle.sender.specs.Record.{State, blockAt, storePlace, contents}
+use Rattle.sender.specs.Record.{longestSent, State, blockAt, contents}
 use Rattle.sender.specs.Send.{dataValues, dataBytes, newAnswer, newDatagram, lowestWaiting, resendAnswer, resendDatagram}
 use Rattle.sender.specs.Facts.{consistent-facts}
 use Rattle.sender.specs.SendReady.{sound-facts, new-accepted, resend-accepted, resend-ready}
@@ -26,7 +27,7 @@ data-length low next c b =
     framed-length (prefixFor (packetBytes (dataValues low next c) [] [] b)) (packetBytes (dataValues low next c) [] [] b) ∙ omega arith
 
 -- of a block that is short enough, nothing but the room decides
-pub data-answer : (low next c : ℕ) (b : List ℕ) (room : ℕ) → length b ≤ 1223
+pub data-answer : (low next c : ℕ) (b : List ℕ) (room : ℕ) → length b ≤ longestSent
     → writeAnswer (dataValues low next c) [] [] b room ≡ roomAnswer (dataBytes low next c b) room
 unfolding writeAnswer roomAnswer dataBytes first outside sixOf
 data-answer low next c b room h =
@@ -34,7 +35,7 @@ data-answer low next c b room h =
     rw (le-ltb 1232 (length (datagramOf (dataValues low next c) [] [] b)) n) refl
 
 -- THE THEOREM.
-pub data-reads-back : (low next c : ℕ) (b : List ℕ) → length b ≤ 1223 → Says (dataValues low next c) [] [] b (dataBytes low next c b)
+pub data-reads-back : (low next c : ℕ) (b : List ℕ) → length b ≤ longestSent → Says (dataValues low next c) [] [] b (dataBytes low next c b)
 unfolding dataBytes roomAnswer first
 data-reads-back low next c b h =
     let l = length (datagramOf (dataValues low next c) [] [] b) in

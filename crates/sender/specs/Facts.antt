@@ -11,26 +11,27 @@ use Rattle.common.specs.Every.{every, allBelow, countBelow}
 use Rattle.common.specs.EveryLaws.{all-every, all-at, all-from, implied, imply, every-at, every-none, every-first}
 use Rattle.common.specs.CountLaws.{some-at, one-only, one-from}
 use Rattle.common.specs.Facts.{lt-or-ge, bool, clash}
+use Rattle.numbers.specs.Full.{pastHighest, highestFirst}
 use Rattle.window.specs.Sliding.{Shape}
 use Rattle.window.specs.Places.{at-number}
 use Rattle.sender.specs.declared.NumberPlace.{NumberPlace}
 use Rattle.sender.specs.declared.Sender.{Sender}
-use Rattle.sender.specs.Record.{isPending, isInFlight, isWaiting, isAcknowledged, numberPasses, blockPasses, noNumber, noBlock, numberAt, blockAt}
+use Rattle.sender.specs.Record.{shortestTimeout, longestTimeout, longestSent, isPending, isInFlight, isWaiting, isAcknowledged, numberPasses, blockPasses, noNumber, noBlock, numberAt, blockAt}
 use Rattle.sender.specs.PlaceTests.{zero-number, number-zero, zero-block, block-zero, number-past, number-pending, number-done, heldTests, block-past, block-held, carried, carrying}
-use Rattle.sender.specs.Consistent.{numberFits, carries, oneCarrier, blockFits, numberOk, blockOk, spareNumber, spareBlock, consistencyTests, consistentOf}
+use Rattle.sender.specs.Consistent.{rangeTests, rangeFits, timeoutTests, timeoutFits, numberFits, carries, oneCarrier, blockFits, numberOk, blockOk, spareNumber, spareBlock, consistencyTests, consistentOf}
 
 pub record Bounds (w : ℕ) (s : Sender) : Type 0 where
-  pub firstdata : s .firstdata .0 ≤ 65535
-  pub firstchannel : s .firstchannel .0 ≤ 65535
-  pub shortest : 300 ≤ s .timeout
-  pub longest : s .timeout ≤ 60000
+  pub firstdata : s .firstdata .0 ≤ highestFirst
+  pub firstchannel : s .firstchannel .0 ≤ highestFirst
+  pub shortest : shortestTimeout ≤ s .timeout
+  pub longest : s .timeout ≤ longestTimeout
   pub low : s .firstdata .0 ≤ s .low .0
   pub next : s .low .0 ≤ s .next .0
-  pub full : s .next .0 ≤ 4294967296
+  pub full : s .next .0 ≤ pastHighest
   pub room : s .next .0 ≤ s .low .0 + w
   pub channellow : s .firstchannel .0 ≤ s .channellow .0
   pub channelnext : s .channellow .0 ≤ s .channelnext .0
-  pub channelfull : s .channelnext .0 ≤ 4294967296
+  pub channelfull : s .channelnext .0 ≤ pastHighest
   pub channelroom : s .channelnext .0 ≤ s .channellow .0 + w
 
 -- a pending number: its block is in range and in flight
@@ -65,7 +66,7 @@ pub record Facts (w cap : ℕ) (s : Sender) : Type 0 where
   pub pending : (n : ℕ) → s .low .0 ≤ n → n < s .low .0 + w → isPending (numberAt w s n) ≡ true → Out w s n
   pub done : (n : ℕ) → s .low .0 ≤ n → n < s .next .0 → isPending (numberAt w s n) ≡ false → Done w s n
   pub unused : (n : ℕ) → s .next .0 ≤ n → n < s .low .0 + w → numberAt w s n ≡ noNumber
-  pub short : (c : ℕ) → s .channellow .0 ≤ c → c < s .channelnext .0 → blockAt w s c .length ≤ 1223
+  pub short : (c : ℕ) → s .channellow .0 ≤ c → c < s .channelnext .0 → blockAt w s c .length ≤ longestSent
   pub rests : (c : ℕ) → s .channellow .0 ≤ c → c < s .channelnext .0 → isInFlight (blockAt w s c) ≡ false
       → cond (isWaiting (blockAt w s c)) true (isAcknowledged (blockAt w s c)) ≡ true
   pub vacant : (c : ℕ) → s .channelnext .0 ≤ c → c < s .channellow .0 + w → blockAt w s c ≡ noBlock
@@ -152,7 +153,7 @@ module _ (w cap : ℕ) (s : Sender) where
         omega arith
 
   pub consistent-facts : 0 < w → w ≤ cap → consistentOf w cap s ≡ true → Facts w cap s
-  unfolding consistentOf spareNumber spareBlock
+  unfolding consistentOf rangeFits timeoutFits spareNumber spareBlock
   consistent-facts lw uw h =
       record {
         some = lw;
@@ -160,8 +161,8 @@ module _ (w cap : ℕ) (s : Sender) where
         numbers = longn;
         blocks = longb;
         bounds = b;
-        lowStands = not-true _ (test 14);
-        channelStands = not-true _ (test 15);
+        lowStands = not-true _ (test 5);
+        channelStands = not-true _ (test 6);
         pending = pending-out b ns bs;
         done = done-range b ns bs;
         unused = λ n l u. zero-number (numberAt w s n) (sym (number-past (numberAt w s n) _ n _ _ _ _ l) ∙ ns n (omega (arith, b .next)) u);
@@ -174,12 +175,12 @@ module _ (w cap : ℕ) (s : Sender) where
         only = no-other b ns bs;
         spareNumbers = λ i l.
             ⊎-elim
-            (λ lt. zero-number (getD (s .numbers) i noNumber) (implied (leb w i) _ (all-at (spareNumber w s) cap (test 18) i lt) (le-leb w i l)))
+            (λ lt. zero-number (getD (s .numbers) i noNumber) (implied (leb w i) _ (all-at (spareNumber w s) cap (test 9) i lt) (le-leb w i l)))
             (λ ge. List·getD-eq-default (s .numbers) noNumber (omega (arith, longn)))
             (lt-or-ge i cap);
         spareBlocks = λ i l.
             ⊎-elim
-            (λ lt. zero-block (getD (s .blocks) i noBlock) (implied (leb w i) _ (all-at (spareBlock w s) cap (test 19) i lt) (le-leb w i l)))
+            (λ lt. zero-block (getD (s .blocks) i noBlock) (implied (leb w i) _ (all-at (spareBlock w s) cap (test 10) i lt) (le-leb w i l)))
             (λ ge. List·getD-eq-default (s .blocks) noBlock (omega (arith, longb)))
             (lt-or-ge i cap);
       }
@@ -193,28 +194,37 @@ module _ (w cap : ℕ) (s : Sender) where
       longb : length (s .blocks) ≡ cap
       longb = eqb-true _ _ (test 1)
 
+      ranged : (i : ℕ) → getD (rangeTests w (s .firstdata .0) (s .low .0) (s .next .0)) i true ≡ true
+      ranged = every-at (rangeTests w (s .firstdata .0) (s .low .0) (s .next .0)) (test 2)
+
+      channels : (i : ℕ) → getD (rangeTests w (s .firstchannel .0) (s .channellow .0) (s .channelnext .0)) i true ≡ true
+      channels = every-at (rangeTests w (s .firstchannel .0) (s .channellow .0) (s .channelnext .0)) (test 3)
+
+      timed : (i : ℕ) → getD (timeoutTests (s .timeout)) i true ≡ true
+      timed = every-at (timeoutTests (s .timeout)) (test 4)
+
       b : Bounds w s
       b =
           record {
-            firstdata = leb-true _ _ (test 2);
-            firstchannel = leb-true _ _ (test 3);
-            shortest = leb-true _ _ (test 4);
-            longest = leb-true _ _ (test 5);
-            low = leb-true _ _ (test 6);
-            next = leb-true _ _ (test 7);
-            full = leb-true _ _ (test 8);
-            room = leb-true _ _ (test 9);
-            channellow = leb-true _ _ (test 10);
-            channelnext = leb-true _ _ (test 11);
-            channelfull = leb-true _ _ (test 12);
-            channelroom = leb-true _ _ (test 13);
+            firstdata = leb-true _ _ (ranged 0);
+            firstchannel = leb-true _ _ (channels 0);
+            shortest = leb-true _ _ (timed 0);
+            longest = leb-true _ _ (timed 1);
+            low = leb-true _ _ (ranged 1);
+            next = leb-true _ _ (ranged 2);
+            full = leb-true _ _ (ranged 3);
+            room = leb-true _ _ (ranged 4);
+            channellow = leb-true _ _ (channels 1);
+            channelnext = leb-true _ _ (channels 2);
+            channelfull = leb-true _ _ (channels 3);
+            channelroom = leb-true _ _ (channels 4);
           }
 
       ns : (n : ℕ) → s .low .0 ≤ n → n < s .low .0 + w → numberJudged n ≡ true
-      ns = numbers-judged (test 16)
+      ns = numbers-judged (test 7)
 
       bs : (c : ℕ) → s .channellow .0 ≤ c → c < s .channellow .0 + w → blockJudged c ≡ true
-      bs = blocks-judged (test 17)
+      bs = blocks-judged (test 8)
 
   -- The other way: each test passes.
   number-fits : Facts w cap s → (n : ℕ) → s .low .0 ≤ n → n < s .low .0 + w → numberJudged n ≡ true
@@ -254,23 +264,14 @@ module _ (w cap : ℕ) (s : Sender) where
           (bool (isInFlight (blockAt w s c)))
 
   pub facts-consistent : Facts w cap s → consistentOf w cap s ≡ true
-  unfolding consistentOf numberOk blockOk spareNumber spareBlock
+  unfolding consistentOf rangeFits timeoutFits numberOk blockOk spareNumber spareBlock
   facts-consistent f =
       let b = f .bounds in
       every-first _ _ (eq-eqb _ _ (f .numbers))
       ∙ every-first _ _ (eq-eqb _ _ (f .blocks))
-      ∙ every-first _ _ (le-leb _ _ (b .firstdata))
-      ∙ every-first _ _ (le-leb _ _ (b .firstchannel))
-      ∙ every-first _ _ (le-leb _ _ (b .shortest))
-      ∙ every-first _ _ (le-leb _ _ (b .longest))
-      ∙ every-first _ _ (le-leb _ _ (b .low))
-      ∙ every-first _ _ (le-leb _ _ (b .next))
-      ∙ every-first _ _ (le-leb _ _ (b .full))
-      ∙ every-first _ _ (le-leb _ _ (b .room))
-      ∙ every-first _ _ (le-leb _ _ (b .channellow))
-      ∙ every-first _ _ (le-leb _ _ (b .channelnext))
-      ∙ every-first _ _ (le-leb _ _ (b .channelfull))
-      ∙ every-first _ _ (le-leb _ _ (b .channelroom))
+      ∙ every-first _ _ (all-every (rangeTests w (s .firstdata .0) (s .low .0) (s .next .0)) (le-leb _ _ (b .firstdata), (le-leb _ _ (b .low), (le-leb _ _ (b .next), (le-leb _ _ (b .full), (le-leb _ _ (b .room), tt))))))
+      ∙ every-first _ _ (all-every (rangeTests w (s .firstchannel .0) (s .channellow .0) (s .channelnext .0)) (le-leb _ _ (b .firstchannel), (le-leb _ _ (b .channellow), (le-leb _ _ (b .channelnext), (le-leb _ _ (b .channelfull), (le-leb _ _ (b .channelroom), tt))))))
+      ∙ every-first _ _ (all-every (timeoutTests (s .timeout)) (le-leb _ _ (b .shortest), (le-leb _ _ (b .longest), tt)))
       ∙ every-first _ _ (ap not (f .lowStands))
       ∙ every-first _ _ (ap not (f .channelStands))
       ∙ every-first _ _ (all-from (numberOk w s) w (λ i l. number-fits f (s .low .0 + i) (omega arith) (omega arith)))

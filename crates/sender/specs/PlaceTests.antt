@@ -12,7 +12,7 @@ use Rattle.common.specs.EveryLaws.{all-every, every-at}
 use Rattle.sender.specs.declared.NumberPlace.{NumberPlace}
 use Rattle.sender.specs.declared.BlockPlace.{BlockPlace}
 use Rattle.sender.specs.declared.Sender.{Sender}
-use Rattle.sender.specs.Record.{isPending, isInFlight, isWaiting, isAcknowledged, noNumber, noBlock, numberAt}
+use Rattle.sender.specs.Record.{longestSent, isPending, isInFlight, isWaiting, isAcknowledged, noNumber, noBlock, numberAt}
 use Rattle.sender.specs.Consistent.{zeroNumber, zeroBlock, pendingTests, doneTests, numberFits, carries, blockFits}
 
 -- A zero place is the blank one.
@@ -59,7 +59,7 @@ module _ (p : NumberPlace) (fly : Bool) (n next firstchannel channellow channeln
   number-done l t = rw (lt-leb next n l, t) refl
 
 abbrev pub heldTests : BlockPlace → Bool → List Bool
-heldTests b single = leb (b .length) 1223 ∷ cond (isInFlight b) single (cond (isWaiting b) true (isAcknowledged b)) ∷ []
+heldTests b single = leb (b .length) longestSent ∷ cond (isInFlight b) single (cond (isWaiting b) true (isAcknowledged b)) ∷ []
 
 pub block-past : (b : BlockPlace) (single : Bool) (c channelnext : ℕ) → channelnext ≤ c → blockFits b single c channelnext ≡ zeroBlock b
 unfolding blockFits

@@ -1,18 +1,25 @@
 -- The sender's record, over a window of w: "32 places for data numbers from low up to next (pending, received or lost; channel number; tick sent) and 32 for
 -- blocks from channel low up to channel next (in flight, waiting or acknowledged; length)."
-use Prim.Native.Nat.{ℕ, _*_, _%_}
+use Prim.Native.Nat.{ℕ}
 use mathlib.Core.Bool.{Bool, cond, true}
 use mathlib.Core.List.{List}
-use lib.ListN.{take, drop}
 use lib.Dec.{eqb}
+use Rattle.window.specs.Store.{storedAt}
 use Rattle.window.specs.Window.{Win, here}
 use Rattle.sender.specs.declared.NumberPlace.{NumberPlace}
 use Rattle.sender.specs.declared.BlockPlace.{BlockPlace}
 use Rattle.sender.specs.declared.Sender.{Sender}
 
--- "Full numbers run to 4,294,967,295"
-abbrev pub highest : ℕ
-highest = 4294967295
+-- "a loss timeout of 300 to 60,000 ms"
+abbrev pub shortestTimeout : ℕ
+shortestTimeout = 300
+
+abbrev pub longestTimeout : ℕ
+longestTimeout = 60000
+
+-- "over 1,223 bytes given to the new-block call": the longest block that is sent
+abbrev pub longestSent : ℕ
+longestSent = 1223
 
 -- a record and the store that is lent with it
 pub record State : Type 0 where
@@ -87,10 +94,6 @@ numberAt w s n = here noNumber w (numbersOf s) n
 abbrev pub blockAt : ℕ → Sender → ℕ → BlockPlace
 blockAt w s c = here noBlock w (blocksOf s) c
 
--- "a lent store of the sender's own, laid out as the receiver's"
-abbrev pub storePlace : ℕ → ℕ → ℕ
-storePlace w c = c % w * 1225
-
--- the bytes of block c, as its place has them
+-- the bytes of block c, as its place has them, in "a lent store of the sender's own, laid out as the receiver's"
 unfoldable pub contents : ℕ → State → ℕ → List ℕ
-contents w s c = take (blockAt w (s .sender) c .length) (drop (storePlace w c) (s .store))
+contents w s c = storedAt w (s .store) c (blockAt w (s .sender) c .length)

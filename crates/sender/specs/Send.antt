@@ -7,11 +7,13 @@ use lib.ListN.{length, set}
 use lib.Dec.{eqb, leb, ltb}
 use Rattle.common.specs.Put.{putOf}
 use Rattle.common.specs.Order.{Test, test, first}
+use Rattle.numbers.specs.Full.{highest}
+use Rattle.window.specs.Store.{storePlace}
 use Rattle.wire.specs.declared.Values.{Values}
 use Rattle.wire.specs.Layout.{noAck, noDelay, noVector}
 use Rattle.wire.specs.Write.{datagramOf}
 use Rattle.sender.specs.declared.Sender.{Sender}
-use Rattle.sender.specs.Record.{highest, State, pending, inFlight, isWaiting, blockAt, storePlace, contents}
+use Rattle.sender.specs.Record.{longestSent, State, pending, inFlight, isWaiting, blockAt, contents}
 use Rattle.sender.specs.Consistent.{soundOf}
 
 -- the values of a data packet with this low and this data number that carries block c; "The endpoint writes LogWindowSize 5"
@@ -55,7 +57,7 @@ sentOf w s tick c length channelnext =
 abbrev pub newTests : ℕ → ℕ → State → List ℕ → ℕ → List Test
 newTests w cap s block room =
     test (not (soundOf w cap (s .sender) (length (s .store)))) 13
-    ∷ test (ltb 1223 (length block)) 10
+    ∷ test (ltb longestSent (length block)) 10
     ∷ test (cond (ltb highest (s .sender .next .0)) true (ltb highest (s .sender .channelnext .0))) 12
     ∷ test (cond (leb (s .sender .low .0 + w) (s .sender .next .0)) true (leb (s .sender .channellow .0 + w) (s .sender .channelnext .0))) 9
     ∷ test (ltb room (length (dataDatagram (s .sender) (s .sender .channelnext .0) block))) 14

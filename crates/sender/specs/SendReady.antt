@@ -13,9 +13,11 @@ use borrow.Author.Tests.{eqb-true, ltb-false, leb-false, not-false}
 use Rattle.common.specs.EveryLaws.{every-all}
 use Rattle.common.specs.Order.{first-pass}
 use Rattle.common.specs.Facts.{lt-or-ge, bool, clash}
+use Rattle.numbers.specs.Full.{highest}
+use Rattle.window.specs.Store.{placeSize, storeSize, storePlace, soundWith}
 use Rattle.sender.specs.declared.BlockPlace.{BlockPlace}
 use Rattle.sender.specs.declared.Sender.{Sender}
-use Rattle.sender.specs.Record.{highest, State, isWaiting, isInFlight, inFlight, waiting, blockAt, storePlace}
+use Rattle.sender.specs.Record.{longestSent, State, isWaiting, isInFlight, inFlight, waiting, blockAt}
 use Rattle.sender.specs.Consistent.{consistentOf, soundOf}
 use Rattle.sender.specs.Send.{newAnswer, waitingFrom, lowestWaiting, isNone, resendAnswer}
 use Rattle.sender.specs.Facts.{Facts}
@@ -26,15 +28,15 @@ neither true b h = clash true refl h
 neither false b h = (refl, h)
 
 -- A sound record and store: the record is consistent, and the store of its size.
-pub sound-facts : (w cap : ℕ) (s : Sender) (size : ℕ) → soundOf w cap s size ≡ true → (consistentOf w cap s ≡ true) × (size ≡ w * 1225)
-unfolding soundOf
+pub sound-facts : (w cap : ℕ) (s : Sender) (size : ℕ) → soundOf w cap s size ≡ true → (consistentOf w cap s ≡ true) × (size ≡ storeSize w)
+unfolding soundWith
 sound-facts w cap s size h =
-    let k = every-all (consistentOf w cap s ∷ eqb size (w * 1225) ∷ []) h in (k .0, eqb-true _ _ (k .1 .0))
+    let k = every-all (consistentOf w cap s ∷ eqb size (storeSize w) ∷ []) h in (k .0, eqb-true _ _ (k .1 .0))
 
 -- what an accepted new block has
 pub record New (w cap : ℕ) (s : State) (block : List ℕ) : Type 0 where
   pub sound : soundOf w cap (s .sender) (length (s .store)) ≡ true
-  pub short : length block ≤ 1223
+  pub short : length block ≤ longestSent
   pub left : s .sender .next .0 ≤ highest
   pub channelleft : s .sender .channelnext .0 ≤ highest
   pub room : s .sender .next .0 < s .sender .low .0 + w
@@ -75,11 +77,11 @@ new-ready w cap s block f k =
     }
 
 -- A block of at most 1,223 bytes fits its place in the store.
-pub place-room : (w c n size : ℕ) → 0 < w → n ≤ 1223 → size ≡ w * 1225 → storePlace w c + n ≤ size
+pub place-room : (w c n size : ℕ) → 0 < w → n ≤ longestSent → size ≡ storeSize w → storePlace w c + n ≤ size
 place-room w c n size lw ln e =
     let l : suc (c % w) ≤ w = mod-lt c lw in
-    let m = mul-le-mul-right 1225 l in
-    let k = suc-mul (c % w) 1225 in
+    let m = mul-le-mul-right placeSize l in
+    let k = suc-mul (c % w) placeSize in
     omega arith
 
 -- The waiting block that is found, is one, and in range.

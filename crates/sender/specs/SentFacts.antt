@@ -10,24 +10,25 @@ use lib.ListN.{length, length-set}
 use lib.Seq.{getD-set-same, getD-set-other}
 use borrow.Author.Tests.{eqb-true, eqb-false}
 use Rattle.common.specs.Facts.{lt-or-ge, bool, clash}
+use Rattle.numbers.specs.Full.{highest, pastHighest}
 use Rattle.window.specs.Places.{place-same}
 use Rattle.sender.specs.declared.NumberPlace.{NumberPlace}
 use Rattle.sender.specs.declared.BlockPlace.{BlockPlace}
 use Rattle.sender.specs.declared.Sender.{Sender}
-use Rattle.sender.specs.Record.{highest, pending, inFlight, isPending, isInFlight, numberPasses, blockPasses, noNumber, noBlock, numberAt, blockAt}
+use Rattle.sender.specs.Record.{longestSent, pending, inFlight, isPending, isInFlight, numberPasses, blockPasses, noNumber, noBlock, numberAt, blockAt}
 use Rattle.sender.specs.Send.{sentOf}
 use Rattle.sender.specs.Facts.{Out, Done, Carrier, Facts}
 use Rattle.sender.specs.TurnedWants.{resting}
 
 -- what the refusals of both calls have ruled out: block c may go out, and channel next comes to stand at top
 pub record Ready (w : ℕ) (s : Sender) (c size top : ℕ) : Type 0 where
-  pub short : size ≤ 1223
+  pub short : size ≤ longestSent
   pub left : s .next .0 ≤ highest
   pub room : s .next .0 < s .low .0 + w
   pub least : s .channellow .0 ≤ c
   pub most : c < top
   pub rises : s .channelnext .0 ≤ top
-  pub full : top ≤ 4294967296
+  pub full : top ≤ pastHighest
   pub fits : top ≤ s .channellow .0 + w
   -- all others below top were in range before
   pub others : (d : ℕ) → d < top → (d ≡ c → ⊥) → d < s .channelnext .0
@@ -199,7 +200,7 @@ module _ {w cap : ℕ} {s : Sender} (f : Facts w cap s) (tick : ℕ) {c size top
         pending = out-sent;
         done = done-sent;
         unused = λ n l u. number-old n (omega (arith, o .next)) u (λ z. omega arith) ∙ f .unused n (omega arith) u;
-        short = λ d l u. each-block (λ (b : BlockPlace). b .length ≤ 1223) d l u (r .short) (λ v. f .short d l v);
+        short = λ d l u. each-block (λ (b : BlockPlace). b .length ≤ longestSent) d l u (r .short) (λ v. f .short d l v);
         rests = λ d l u.
             each-block (λ (b : BlockPlace). isInFlight b ≡ false → resting b ≡ true) d l u (λ h. clash true refl h) (λ v. f .rests d l v);
         vacant = λ d l u. block-old d (omega (arith, o .channelnext, r .rises)) u (λ z. omega (arith, r .most)) ∙ f .vacant d (omega (arith, r .rises)) u;

@@ -12,8 +12,9 @@ use borrow.Author.Tests.{eqb-true, eq-eqb}
 use Rattle.common.specs.EveryLaws.{all-every}
 use Rattle.common.specs.Facts.{bool, clash}
 use Rattle.common.specs.Put.{put-length}
+use Rattle.window.specs.Store.{storePlace, soundWith}
 use Rattle.sender.specs.declared.Sender.{Sender}
-use Rattle.sender.specs.Record.{State, storePlace}
+use Rattle.sender.specs.Record.{State}
 use Rattle.sender.specs.Consistent.{consistentOf, soundOf}
 use Rattle.sender.specs.Send.{newAnswer, newOf, lowestWaiting, isNone, resendAnswer, resentFor, resendOf}
 use Rattle.sender.specs.Acknowledge.{acknowledgeOf}
@@ -83,13 +84,13 @@ module _ (w cap : ℕ) (lw : 0 < w) (uw : w ≤ cap) where
   -- The same of a record with its store.
   pub new-sound : (s : State) (tick : ℕ) (block : List ℕ) (room : ℕ) → soundOf w cap (s .sender) (length (s .store)) ≡ true
       → soundOf w cap (newOf w cap s tick block room .sender) (length (newOf w cap s tick block room .store)) ≡ true
-  unfolding soundOf
+  unfolding soundWith
   new-sound s tick block room h =
       let (k, e) = sound-facts w cap (s .sender) (length (s .store)) h in
       all-every _ (new-keeps s tick block room k, (eq-eqb _ _ (new-length s tick block room ∙ e), tt))
 
   pub resend-sound : (s : State) (tick room : ℕ) → soundOf w cap (s .sender) (length (s .store)) ≡ true
       → soundOf w cap (resendOf w cap s tick room) (length (s .store)) ≡ true
-  unfolding soundOf
+  unfolding soundWith
   resend-sound s tick room h =
       let (k, e) = sound-facts w cap (s .sender) (length (s .store)) h in all-every _ (resend-keeps s tick room k, (eq-eqb _ _ e, tt))

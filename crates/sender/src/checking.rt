@@ -3,8 +3,7 @@ ghost use mathlib.Core.Path.{_≡_};
 ghost use mathlib.Core.Bool.{true, false, cond, not};
 ghost use lib.Dec.{eqb, leb};
 ghost use Rattle.common.specs.Every.{implies};
-ghost use Rattle.sender.specs.Bounds.{rangeOf, timeoutOf};
-ghost use Rattle.sender.specs.Consistent.{zeroNumber, numberFits, blockFits, consistentOf};
+ghost use Rattle.sender.specs.Consistent.{rangeFits, timeoutFits, zeroNumber, numberFits, blockFits, consistentOf};
 use crate::BlockPlace;
 use crate::NumberPlace;
 use crate::Sender;
@@ -12,13 +11,13 @@ use numbers::ChannelNumber;
 use numbers::DataNumber;
 
 // The longest block that is sent, as a place has its length.
-const LONGEST: u16 = crate::LONGEST as u16;
+const LONGEST: u16 = crate::LONGEST_BLOCK as u16;
 
 // Is a range in order, its first within opening's range?
 fn range_fits(first: u64, low: u64, next: u64) -> bool
-    ensures { λ r. ⌜ r ≡ rangeOf 32 first low next ⌝ }
+    ensures { λ r. ⌜ r ≡ rangeFits 32 first low next ⌝ }
 {
-    if 65535 < first {
+    if numbers::FIRST < first {
         return false;
     }
     if low < first {
@@ -27,7 +26,7 @@ fn range_fits(first: u64, low: u64, next: u64) -> bool
     if next < low {
         return false;
     }
-    if crate::HIGHEST + 1 < next {
+    if numbers::PAST < next {
         return false;
     }
     next <= low + DataNumber::WINDOW
@@ -35,12 +34,12 @@ fn range_fits(first: u64, low: u64, next: u64) -> bool
 
 // Is the loss timeout within opening's range?
 fn timeout_fits(timeout: u32) -> bool
-    ensures { λ r. ⌜ r ≡ timeoutOf timeout ⌝ }
+    ensures { λ r. ⌜ r ≡ timeoutFits timeout ⌝ }
 {
-    if timeout < 300 {
+    if timeout < crate::SHORTEST_TIMEOUT {
         return false;
     }
-    timeout <= 60000
+    timeout <= crate::LONGEST_TIMEOUT
 }
 
 // Does low pass a number in this state?
@@ -57,17 +56,17 @@ pub fn passes(state: u8) -> bool
 fn used_fits(
     p: NumberPlace,
     fly: bool,
-    firstchannel: u64,
-    channellow: u64,
-    channelnext: u64,
+    firstchannel: ChannelNumber,
+    channellow: ChannelNumber,
+    channelnext: ChannelNumber,
 ) -> bool
-    ensures { λ r. ⌜ r ≡ numberFits p fly 0 1 firstchannel channellow channelnext ⌝ }
+    ensures { λ r. ⌜ r ≡ numberFits p fly 0 1 (firstchannel .0) (channellow .0) (channelnext .0) ⌝ }
 {
     if p.state == crate::PENDING {
-        if p.channel.0 < channellow {
+        if p.channel.0 < channellow.0 {
             return false;
         }
-        if channelnext <= p.channel.0 {
+        if channelnext.0 <= p.channel.0 {
             return false;
         }
         return fly;
@@ -75,10 +74,10 @@ fn used_fits(
     if !passes(p.state) {
         return false;
     }
-    if p.channel.0 < firstchannel {
+    if p.channel.0 < firstchannel.0 {
         return false;
     }
-    p.channel.0 < channelnext
+    p.channel.0 < channelnext.0
 }
 
 // Is a number's place not zero, though the number lies from next on? It lies `past` numbers past low, and `count` numbers from low
@@ -113,11 +112,13 @@ pub fn consistent(s: Sender) -> bool
     if !timeout_fits(s.timeout) {
         return false;
     }
-    let number = s.numbers[(s.low.0 % DataNumber::WINDOW) as usize];
+    let lowat = window::data_place(s.low);
+    let number = s.numbers[lowat];
     if passes(number.state) {
         return false;
     }
-    let block = s.blocks[(s.channellow.0 % ChannelNumber::WINDOW) as usize];
+    let blockat = window::channel_place(s.channellow);
+    let block = s.blocks[blockat];
     if block.state == crate::ACKNOWLEDGED {
         return false;
     }
@@ -125,12 +126,12 @@ pub fn consistent(s: Sender) -> bool
     let mut marks = [false; 32];
     let mut i: u64 = 0;
     while i < span {
-        let n = s.low.0 + i;
-        let p = s.numbers[(n % DataNumber::WINDOW) as usize];
-        let at = (p.channel.0 % ChannelNumber::WINDOW) as usize;
+        let numberat = window::data_place(DataNumber(s.low.0 + i));
+        let p = s.numbers[numberat];
+        let at = window::channel_place(p.channel);
         let b = s.blocks[at];
         let fly = b.state == crate::INFLIGHT;
-        if !used_fits(p, fly, s.firstchannel.0, s.channellow.0, s.channelnext.0) {
+        if !used_fits(p, fly, s.firstchannel, s.channellow, s.channelnext) {
             return false;
         }
         if p.state == crate::PENDING {

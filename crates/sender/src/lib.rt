@@ -9,15 +9,13 @@ pub mod checking;
 use numbers::ChannelNumber;
 use numbers::DataNumber;
 
-// The size of the store, and of a block's place in it; the longest block that is sent.
-pub const STORE: usize = 39200;
+// The longest block that is sent.
+pub const LONGEST_BLOCK: usize = 1223;
 
-pub const PLACE: usize = 1225;
+// The shortest and the longest loss timeout, in milliseconds.
+pub const SHORTEST_TIMEOUT: u32 = 300;
 
-pub const LONGEST: usize = 1223;
-
-// The highest full number.
-pub const HIGHEST: u64 = 4294967295;
+pub const LONGEST_TIMEOUT: u32 = 60000;
 
 // What a data number's place says of it.
 pub const UNUSED: u8 = 0;

@@ -13,31 +13,20 @@ use Rattle.common.specs.Answer.{writtenOf, leftOf, numberOf, written-refused, l
 use Rattle.common.specs.Choice.{unless}
 use Rattle.common.specs.Order.{first-here, first-skip}
 use Rattle.common.specs.Put.{putOf}
+use Rattle.numbers.specs.Full.{highest}
+use Rattle.window.specs.Store.{placeSize, storeSize, size-wrong, size-right}
 use Rattle.sender.specs.declared.Sender.{Sender}
-use Rattle.sender.specs.Record.{highest, State}
+use Rattle.sender.specs.Record.{longestSent, State}
 use Rattle.sender.specs.Consistent.{consistentOf, soundOf}
 use Rattle.sender.specs.Send.{sentOf, newAnswer, newDatagram, newOf}
-use Rattle.common.specs.EveryLaws.{every-at}
-use Rattle.sender.proofs.Passing.{Range, consistent-passes, range-facts, unsized, sound-as}
+use Rattle.sender.specs.Facts.{Bounds, consistent-facts}
+use Rattle.sender.specs.SendReady.{sound-facts}
 
 -- what a sound record tells
-pub record Sound (s : Sender) (size : ℕ) : Type 0 where
-  pub consistent : consistentOf 32 32 s ≡ true
-  pub numbers : Range (s .firstdata .0) (s .low .0) (s .next .0)
-  pub channels : Range (s .firstchannel .0) (s .channellow .0) (s .channelnext .0)
-  pub store : size ≡ 39200
-
-pub sound-facts : (s : Sender) (size : ℕ) → soundOf 32 32 s size ≡ true → Sound s size
-unfolding soundOf
-sound-facts s size h =
-    let c : consistentOf 32 32 s ≡ true = every-at (consistentOf 32 32 s ∷ eqb size 39200 ∷ []) h 0 in
-    let p = consistent-passes s c in
-    record {
-      consistent = c;
-      numbers = range-facts _ _ _ (p .range);
-      channels = range-facts _ _ _ (p .channels);
-      store = eqb-true _ _ (every-at (consistentOf 32 32 s ∷ eqb size 39200 ∷ []) h 1);
-    }
+pub sound-bounds : (s : Sender) (size : ℕ) → soundOf 32 32 s size ≡ true → Bounds 32 s × (size ≡ storeSize 32)
+sound-bounds s size h =
+    let (k, e) = sound-facts 32 32 s size h in
+    (consistent-facts 32 32 s (omega arith) (omega arith) k .bounds, e)
 
 -- what an answer that was written tells of its number
 pub refused-is : (n a : ℕ) (b : List ℕ) → Refused n ≡ writtenOf a b → (n ≡ a) × (n ≡ 0 → ⊥)
@@ -88,25 +77,25 @@ new-unsound : (s : State) (tick : ℕ) (block out : List ℕ) → soundOf 32 32 
 unfolding newAnswer
 new-unsound s tick block out h = refuses s tick block out 13 (first-here _ _ _ (ap not h)) (λ z. omega arith)
 
-pub new-unsized : (s : State) (tick : ℕ) (block out : List ℕ) → (length (s .store) ≡ 39200 → ⊥) → Left s tick block out (Refused 13) (s .sender) (s .store) out
-new-unsized s tick block out h = new-unsound s tick block out (sym (unsized _ _ h))
+pub new-unsized : (s : State) (tick : ℕ) (block out : List ℕ) → (length (s .store) ≡ storeSize 32 → ⊥) → Left s tick block out (Refused 13) (s .sender) (s .store) out
+new-unsized s tick block out h = new-unsound s tick block out (sym (size-wrong 32 _ _ h))
 
-pub new-unfit : (s : State) (tick : ℕ) (block out : List ℕ) (r : Bool) → length (s .store) ≡ 39200 → r ≡ consistentOf 32 32 (s .sender) → r ≡ false
+pub new-unfit : (s : State) (tick : ℕ) (block out : List ℕ) (r : Bool) → length (s .store) ≡ storeSize 32 → r ≡ consistentOf 32 32 (s .sender) → r ≡ false
     → Left s tick block out (Refused 13) (s .sender) (s .store) out
-new-unfit s tick block out r h e t = new-unsound s tick block out (sym (sound-as _ _ r h e) ∙ t)
+new-unfit s tick block out r h e t = new-unsound s tick block out (sym (size-right 32 _ r _ h e) ∙ t)
 
-pub new-long : (s : State) (tick : ℕ) (block out : List ℕ) → soundOf 32 32 (s .sender) (length (s .store)) ≡ true → 1223 < length block
+pub new-long : (s : State) (tick : ℕ) (block out : List ℕ) → soundOf 32 32 (s .sender) (length (s .store)) ≡ true → longestSent < length block
     → Left s tick block out (Refused 10) (s .sender) (s .store) out
 unfolding newAnswer
 new-long s tick block out h l = refuses s tick block out 10 (first-here _ _ _ (lt-ltb _ _ l) ∙ first-skip _ _ _ (ap not h)) (λ z. omega arith)
 
-pub new-used : (s : State) (tick : ℕ) (block out : List ℕ) (r : Bool) → soundOf 32 32 (s .sender) (length (s .store)) ≡ true → length block ≤ 1223
+pub new-used : (s : State) (tick : ℕ) (block out : List ℕ) (r : Bool) → soundOf 32 32 (s .sender) (length (s .store)) ≡ true → length block ≤ longestSent
     → r ≡ usedUp s → r ≡ true → Left s tick block out (Refused 12) (s .sender) (s .store) out
 unfolding newAnswer
 new-used s tick block out r h l e t =
     refuses s tick block out 12 (first-here _ _ _ (sym e ∙ t) ∙ first-skip _ _ _ (le-ltb _ _ l) ∙ first-skip _ _ _ (ap not h)) (λ z. omega arith)
 
-pub new-full : (s : State) (tick : ℕ) (block out : List ℕ) (r f : Bool) → soundOf 32 32 (s .sender) (length (s .store)) ≡ true → length block ≤ 1223
+pub new-full : (s : State) (tick : ℕ) (block out : List ℕ) (r f : Bool) → soundOf 32 32 (s .sender) (length (s .store)) ≡ true → length block ≤ longestSent
     → r ≡ usedUp s → r ≡ false → f ≡ isFull s → f ≡ true → Left s tick block out (Refused 9) (s .sender) (s .store) out
 unfolding newAnswer
 new-full s tick block out r f h l e t g u =
@@ -115,7 +104,7 @@ new-full s tick block out r f h l e t g u =
 -- past these, the room decides
 pub record Open (s : State) (block : List ℕ) : Type 0 where
   pub sound : soundOf 32 32 (s .sender) (length (s .store)) ≡ true
-  pub short : length block ≤ 1223
+  pub short : length block ≤ longestSent
   pub fresh : usedUp s ≡ false
   pub free : isFull s ≡ false
 
@@ -142,7 +131,7 @@ new-roomless s tick block out left w n o is said g =
 pub new-sent : (s : State) (tick : ℕ) (block out left store : List ℕ) (w : Written) (k at : ℕ) (q : Sender) → Open s block → w ≡ Wrote k
     → w ≡ writtenOf (roomAnswer (newDatagram s block) (length out)) (newDatagram s block)
     → left ≡ leftOf (roomAnswer (newDatagram s block) (length out)) (newDatagram s block) out
-    → at ≡ s .sender .channelnext .0 % 32 → store ≡ putOf (s .store) (at * 1225) block
+    → at ≡ s .sender .channelnext .0 % 32 → store ≡ putOf (s .store) (at * placeSize) block
     → q ≡ sentOf 32 (s .sender) tick (s .sender .channelnext .0) (length block) (s .sender .channelnext .0 + 1) → Left s tick block out (Wrote k) q store left
 unfolding newOf
 new-sent s tick block out left store w k at q o is said g p b r =
@@ -152,6 +141,6 @@ new-sent s tick block out left store w k at q o is said g p b r =
     record {
       written = e ∙ ap (λ (m : ℕ). writtenOf m (newDatagram s block)) a;
       sender = rw z r;
-      kept = rw z (b ∙ ap (λ (m : ℕ). putOf (s .store) (m * 1225) block) p);
+      kept = rw z (b ∙ ap (λ (m : ℕ). putOf (s .store) (m * placeSize) block) p);
       bytes = g ∙ ap (λ (m : ℕ). leftOf m (newDatagram s block) out) a;
     }

@@ -6,4 +6,4 @@ use Rattle.sending.specs.declared.Lowest.the-variants.{Nothing, Block}
 
 abbrev pub lowestOf : Option ℕ → Lowest
 lowestOf none = Nothing
-lowestOf (some c) = Block c
+lowestOf (some c) = Block (record { 0 = c })

@@ -5,9 +5,10 @@ ghost use Prim.Native.Nat.{_+_, _≤_};
 ghost use lib.ListN.{length};
 ghost use lib.Dec.{leb, ltb};
 ghost use Rattle.common.specs.Answer.{roomAnswer, writtenOf, leftOf};
+ghost use Rattle.numbers.specs.Full.{highest, pastHighest};
 ghost use Rattle.sender.specs.Send.{dataBytes, sentOf, newAnswer, newDatagram, newOf, lowestWaiting, resendAnswer, resendDatagram, resendOf};
 ghost use Rattle.sending.specs.Lowest.{lowestOf};
-ghost use Rattle.sender.specs.Record.{highest, state};
+ghost use Rattle.sender.specs.Record.{longestSent, state};
 use common::Written;
 use numbers::ChannelNumber;
 use numbers::DataNumber;
@@ -20,6 +21,9 @@ use wire::Delay;
 use wire::Values;
 use wire::Vector;
 
+// The flags of a data packet: AOA and DATA, nothing else.
+const AOA_AND_DATA: u16 = 0x014;
+
 // What a call that sends answers: what it wrote, and the record.
 pub struct Outcome {
     // The refusal, or how many bytes were written.
@@ -31,18 +35,24 @@ pub struct Outcome {
 // The waiting block of lowest channel number, if any waits.
 pub enum Lowest {
     Nothing,
-    Block(u64),
+    Block(ChannelNumber),
 }
 
 // Writes the datagram that carries a block. Refused with 14 alone.
-fn put_data(low: u64, next: u64, channel: u64, block: &[u8], out: &mut [u8]) -> Written
-    requires { ⌜ length (now block) ≤ 1223 ⌝ }
-    ensures answer { λ r. ⌜ r ≡ writtenOf (roomAnswer (dataBytes low next channel (now (block .entry))) (length (now (out .entry)))) (dataBytes low next channel (now (block .entry))) ⌝ }
-    ensures bytes { λ r. ⌜ now (out .exit) ≡ leftOf (roomAnswer (dataBytes low next channel (now (block .entry))) (length (now (out .entry)))) (dataBytes low next channel (now (block .entry))) (now (out .entry)) ⌝ }
+fn put_data(
+    low: DataNumber,
+    next: DataNumber,
+    channel: ChannelNumber,
+    block: &[u8],
+    out: &mut [u8],
+) -> Written
+    requires { ⌜ length (now block) ≤ longestSent ⌝ }
+    ensures answer { λ r. ⌜ r ≡ writtenOf (roomAnswer (dataBytes (low .0) (next .0) (channel .0) (now (block .entry))) (length (now (out .entry)))) (dataBytes (low .0) (next .0) (channel .0) (now (block .entry))) ⌝ }
+    ensures bytes { λ r. ⌜ now (out .exit) ≡ leftOf (roomAnswer (dataBytes (low .0) (next .0) (channel .0) (now (block .entry))) (length (now (out .entry)))) (dataBytes (low .0) (next .0) (channel .0) (now (block .entry))) (now (out .entry)) ⌝ }
 {
     let values = Values {
-        flags: 0x014,
-        logwindow: 5,
+        flags: AOA_AND_DATA,
+        logwindow: wire::LOGWINDOW,
         ack: Ack {
             number: 0,
             time: 0,
@@ -55,8 +65,8 @@ fn put_data(low: u64, next: u64, channel: u64, block: &[u8], out: &mut [u8]) -> 
             most: 0,
             timeout: 0,
         },
-        aoa: (low % 65536) as u16,
-        number: (next % 65536) as u16,
+        aoa: (low.0 % DataNumber::LAP) as u16,
+        number: (next.0 % DataNumber::LAP) as u16,
         vector: Vector {
             base: 0,
             size: 0,
@@ -64,48 +74,50 @@ fn put_data(low: u64, next: u64, channel: u64, block: &[u8], out: &mut [u8]) -> 
             time: 0,
             gap: 0,
         },
-        channel: (channel % 65536) as u16,
+        channel: (channel.0 % ChannelNumber::LAP) as u16,
     };
     writer::write(values, b"", b"", block, out)
 }
 
 // Has a number passed the full range?
-fn used_up(next: u64, channelnext: u64) -> bool
-    ensures { λ r. ⌜ r ≡ cond (ltb highest next) true (ltb highest channelnext) ⌝ }
+fn used_up(next: DataNumber, channelnext: ChannelNumber) -> bool
+    ensures { λ r. ⌜ r ≡ cond (ltb highest (next .0)) true (ltb highest (channelnext .0)) ⌝ }
 {
-    if sender::HIGHEST < next {
+    if numbers::HIGHEST < next.0 {
         return true;
     }
-    sender::HIGHEST < channelnext
+    numbers::HIGHEST < channelnext.0
 }
 
 // Is a window full?
-fn full(low: u64, next: u64, channellow: u64, channelnext: u64) -> bool
-    requires { ⌜ (low ≤ 4294967296) × (channellow ≤ 4294967296) ⌝ }
-    ensures { λ r. ⌜ r ≡ cond (leb (low + 32) next) true (leb (channellow + 32) channelnext) ⌝ }
+fn full(
+    low: DataNumber,
+    next: DataNumber,
+    channellow: ChannelNumber,
+    channelnext: ChannelNumber,
+) -> bool
+    requires { ⌜ (low .0 ≤ pastHighest) × (channellow .0 ≤ pastHighest) ⌝ }
+    ensures { λ r. ⌜ r ≡ cond (leb (low .0 + 32) (next .0)) true (leb (channellow .0 + 32) (channelnext .0)) ⌝ }
 {
-    if low + DataNumber::WINDOW <= next {
+    if low.0 + DataNumber::WINDOW <= next.0 {
         return true;
     }
-    channellow + ChannelNumber::WINDOW <= channelnext
+    channellow.0 + ChannelNumber::WINDOW <= channelnext.0
 }
 
 // The record after the next data number went out with block c, of so many bytes, at this tick.
-fn sent(s: Sender, tick: u32, c: u64, length: u16, channelnext: u64) -> Sender
-    requires { ⌜ s .next .0 ≤ 4294967296 ⌝ }
-    ensures { λ r. ⌜ r ≡ sentOf 32 s tick c length channelnext ⌝ }
+fn sent(s: Sender, tick: u32, c: ChannelNumber, length: u16, channelnext: ChannelNumber) -> Sender
+    requires { ⌜ s .next .0 ≤ pastHighest ⌝ }
+    ensures { λ r. ⌜ r ≡ sentOf 32 s tick (c .0) length (channelnext .0) ⌝ }
 {
-    let number = s.next.0;
-    let numberat = window::data_place(number);
+    let numberat = window::data_place(s.next);
     let blockat = window::channel_place(c);
     let mut q = s;
-    let next = DataNumber(number + 1);
-    let channel = ChannelNumber(c);
-    let after = ChannelNumber(channelnext);
+    let next = DataNumber(s.next.0 + 1);
     q.next = next;
-    q.channelnext = after;
+    q.channelnext = channelnext;
     q.numbers[numberat] = NumberPlace {
-        channel,
+        channel: c,
         tick,
         state: sender::PENDING,
     };
@@ -124,7 +136,7 @@ pub fn send(s: Sender, store: &mut [u8], tick: u32, block: &[u8], out: &mut [u8]
     ensures kept { λ r. ⌜ now (store .exit) ≡ newOf 32 32 (state s (now (store .entry))) tick (now (block .entry)) (length (now (out .entry))) .store ⌝ }
     ensures bytes { λ r. ⌜ now (out .exit) ≡ leftOf (newAnswer 32 32 (state s (now (store .entry))) (now (block .entry)) (length (now (out .entry)))) (newDatagram (state s (now (store .entry))) (now (block .entry))) (now (out .entry)) ⌝ }
 {
-    if store.len() != sender::STORE {
+    if store.len() != window::STORE {
         return Outcome {
             written: Written::Refused(13),
             sender: s,
@@ -136,11 +148,11 @@ pub fn send(s: Sender, store: &mut [u8], tick: u32, block: &[u8], out: &mut [u8]
             sender: s,
         };
     }
-    let low = s.low.0;
-    let next = s.next.0;
-    let channellow = s.channellow.0;
-    let channel = s.channelnext.0;
-    if sender::LONGEST < block.len() {
+    let low = s.low;
+    let next = s.next;
+    let channellow = s.channellow;
+    let channel = s.channelnext;
+    if sender::LONGEST_BLOCK < block.len() {
         return Outcome {
             written: Written::Refused(10),
             sender: s,
@@ -165,8 +177,14 @@ pub fn send(s: Sender, store: &mut [u8], tick: u32, block: &[u8], out: &mut [u8]
         },
         Written::Wrote(k) => {
             let at = window::channel_place(channel);
-            common::put(store, at * sender::PLACE, block);
-            let q = sent(s, tick, channel, block.len() as u16, channel + 1);
+            common::put(store, at * window::PLACE, block);
+            let q = sent(
+                s,
+                tick,
+                channel,
+                block.len() as u16,
+                ChannelNumber(channel.0 + 1),
+            );
             Outcome {
                 written: Written::Wrote(k),
                 sender: q,
@@ -182,9 +200,10 @@ fn lowest_waiting(s: Sender) -> Lowest
     let next = s.channelnext.0;
     let mut c = s.channellow.0;
     while c < next {
-        let b = s.blocks[(c % ChannelNumber::WINDOW) as usize];
+        let at = window::channel_place(ChannelNumber(c));
+        let b = s.blocks[at];
         if b.state == sender::WAITING {
-            return Lowest::Block(c);
+            return Lowest::Block(ChannelNumber(c));
         }
         c += 1;
     }
@@ -198,7 +217,7 @@ pub fn resend(s: Sender, store: &[u8], tick: u32, out: &mut [u8]) -> Outcome
     ensures record { λ r. ⌜ r .sender ≡ resendOf 32 32 (state s (now (store .entry))) tick (length (now (out .entry))) ⌝ }
     ensures bytes { λ r. ⌜ now (out .exit) ≡ leftOf (resendAnswer 32 32 (state s (now (store .entry))) (length (now (out .entry)))) (resendDatagram 32 (state s (now (store .entry)))) (now (out .entry)) ⌝ }
 {
-    if store.len() != sender::STORE {
+    if store.len() != window::STORE {
         return Outcome {
             written: Written::Refused(13),
             sender: s,
@@ -216,33 +235,33 @@ pub fn resend(s: Sender, store: &[u8], tick: u32, out: &mut [u8]) -> Outcome
             sender: s,
         };
     };
-    let low = s.low.0;
-    let next = s.next.0;
-    if sender::HIGHEST < next {
+    let low = s.low;
+    let next = s.next;
+    if numbers::HIGHEST < next.0 {
         return Outcome {
             written: Written::Refused(12),
             sender: s,
         };
     }
-    if low + DataNumber::WINDOW <= next {
+    if low.0 + DataNumber::WINDOW <= next.0 {
         return Outcome {
             written: Written::Refused(9),
             sender: s,
         };
     }
     // The block's place is read from a copy of the places, so that the record is not copied.
-    let at = (c % ChannelNumber::WINDOW) as usize;
+    let at = window::channel_place(c);
     let places = s.blocks;
     let b = places[at];
     let length = b.length;
-    let start = at * sender::PLACE;
+    let start = at * window::PLACE;
     match put_data(low, next, c, &store[start..start + length as usize], out) {
         Written::Refused(n) => Outcome {
             written: Written::Refused(n),
             sender: s,
         },
         Written::Wrote(k) => {
-            let q = sent(s, tick, c, length, s.channelnext.0);
+            let q = sent(s, tick, c, length, s.channelnext);
             Outcome {
                 written: Written::Wrote(k),
                 sender: q,

@@ -197,5 +197,5 @@ pub swept-fit : (s q : Sender) (tick count : ℕ) (flags : List Bool) → consis
 unfolding sweepAnswer sweepCount sweepOf first
 swept-fit s q tick count flags h e l r =
     let t : q ≡ turnedOf 32 losing (losesAt 32 s tick) s =
-    r ∙ turned-ext losing (chosenBy 32 flags 0) (losesAt 32 s tick) s (λ n a b. chosen-flag 32 flags n ∙ l .holds n (omega arith) b) in
+    r ∙ turned-ext 32 losing (chosenBy 32 flags 0) (losesAt 32 s tick) s (λ n a b. chosen-flag 32 flags n ∙ l .holds n (omega arith) b) in
     (rw h refl, (rw h e, rw h t))

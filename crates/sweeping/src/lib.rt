@@ -5,6 +5,7 @@ ghost use Prim.Native.Nat.{_+_, _≤_, _<_};
 ghost use lib.Dec.{leb};
 ghost use Rattle.common.specs.Every.{countBelow};
 ghost use Rattle.numbers.specs.Age.{reaches};
+ghost use Rattle.numbers.specs.Full.{pastHighest};
 ghost use Rattle.sweeping.specs.FlagsLost.{FlagsLost};
 ghost use Rattle.sender.specs.Sweep.{becomesLost, sweepAnswer, sweepCount, sweepOf};
 use numbers::DataNumber;
@@ -55,7 +56,7 @@ fn counted(n: u32, a: bool, b: bool) -> u32
 
 // Judges every number on the record as it stands, with a running count of the received ones above it.
 fn judge_all(s: Sender, tick: u32) -> Losses
-    requires { ⌜ s .low .0 ≤ 4294967296 ⌝ }
+    requires { ⌜ s .low .0 ≤ pastHighest ⌝ }
     ensures { λ r. ⌜ (r .count ≡ countBelow (becomesLost 32 s tick) 32) × FlagsLost s tick (r .flags) 0 ⌝ }
 {
     let mut flags = [false; 32];
@@ -65,7 +66,7 @@ fn judge_all(s: Sender, tick: u32) -> Losses
     while 0 < i {
         i -= 1;
         let n = s.low.0 + i;
-        let at = (n % DataNumber::WINDOW) as usize;
+        let at = window::data_place(DataNumber(n));
         let p = s.numbers[at];
         let lost = loses(higher, s.timeout, tick, p.tick);
         flags[at] = lost;

@@ -14,12 +14,12 @@ use Rattle.common.specs.Laid.{Laid, laid-as}
 use Rattle.common.specs.Answer.{writtenOf, leftOf, written-refused, left-refused, written-wrote, left-wrote}
 use Rattle.common.specs.declared.Written.{Written}
 use Rattle.common.specs.declared.Written.the-variants.{Refused, Wrote}
+use Rattle.window.specs.Store.{placeSize}
 use Rattle.receiver.specs.declared.Receiver.{Receiver}
-use Rattle.receiver.specs.Record.{highest, state, isHeld, empty, holdAt, contents}
-use Rattle.receiver.specs.Consistent.{holdOk, consistentOf, soundOf}
+use Rattle.receiver.specs.Record.{state, isHeld, empty, holdAt, contents}
+use Rattle.receiver.specs.Consistent.{consistentOf, soundOf}
 use Rattle.receiver.specs.Take.{takeAnswer, blockDue, receiverTaken, takenOf}
-use Rattle.common.specs.EveryLaws.{every-at}
-use Rattle.receiver.proofs.Consistency.{facts}
+use Rattle.receiver.specs.Facts.{consistent-facts}
 
 pub freed-is : (w : ℕ) (r : Receiver) (at : ℕ) → at ≡ r .due .0 % w
     → record { firstdata = r .firstdata; firstchannel = r .firstchannel; base = r .base; end = r .end; due = record { 0 = r .due .0 + 1 }; marks = r .marks; holds = set (r .holds) at empty }
@@ -27,18 +27,11 @@ pub freed-is : (w : ℕ) (r : Receiver) (at : ℕ) → at ≡ r .due .0 % w
 freed-is w r at a = rw a refl
 
 -- a block that is held and due has at most 1,225 bytes
-due-short : (r : Receiver) → consistentOf 32 32 r ≡ true → isHeld (holdAt 32 r (r .due .0)) ≡ true → holdAt 32 r (r .due .0) .length ≤ 1225
-unfolding holdOk
-due-short r h t =
-    let e : r .due .0 + 0 ≡ r .due .0 = add-zero (r .due .0) in
-    let o : every (leb (holdAt 32 r (r .due .0) .length) 1225 ∷ leb (r .due .0) highest ∷ []) ≡ true = rw (e, t) at (facts r h .holds 0 (omega arith)) in
-    leb-true _ _ (every-at (leb (holdAt 32 r (r .due .0) .length) 1225 ∷ leb (r .due .0) highest ∷ []) o 0)
-
-pub taken-short : (r : Receiver) (at n : ℕ) → consistentOf 32 32 r ≡ true → at ≡ r .due .0 % 32 → getD (r .holds) at empty .held ≡ 1
-    → n ≡ getD (r .holds) at empty .length → n ≤ 1225
-taken-short r at n h a t e =
-    let l = due-short r h (eq-eqb (holdAt 32 r (r .due .0) .held) 1 (rw a at t)) in
-    let k : n ≡ holdAt 32 r (r .due .0) .length = rw a at e in
+pub taken-short : (w cap : ℕ) (r : Receiver) (at n : ℕ) → 0 < w → consistentOf w cap r ≡ true → at ≡ r .due .0 % w → getD (r .holds) at empty .held ≡ 1
+    → n ≡ getD (r .holds) at empty .length → n ≤ placeSize
+taken-short w cap r at n lw h a t e =
+    let l = consistent-facts w cap r h .heldShort (r .due .0) (omega arith) (omega arith) (eq-eqb (holdAt w r (r .due .0) .held) 1 (rw a at t)) in
+    let k : n ≡ holdAt w r (r .due .0) .length = rw a at e in
     omega arith
 
 -- an answer, a record and a buffer that are what taking answers and leaves
@@ -81,10 +74,10 @@ module _ (w cap : ℕ) (r : Receiver) (s out : List ℕ) where
             (λ q. absurd (omega arith))
 
         pub take-done : (k : ℕ) (q : Receiver) (left : List ℕ) → n ≤ length out
-            → Laid out 0 (take (at * 1225 + n - at * 1225) (drop (at * 1225) s)) left k → q ≡ receiverTaken w r → Takes w cap r s out (Wrote k) q left
+            → Laid out 0 (take (at * placeSize + n - at * placeSize) (drop (at * placeSize) s)) left k → q ≡ receiverTaken w r → Takes w cap r s out (Wrote k) q left
         unfolding takeAnswer takenOf contents
         take-done k q left l x f =
-            let m : at * 1225 + n - at * 1225 ≡ holdAt w r (r .due .0) .length = omega (arith, long) in
+            let m : at * placeSize + n - at * placeSize ≡ holdAt w r (r .due .0) .length = omega (arith, long) in
             let y : Laid out 0 (blockDue w (state r s)) left k = laid-as (rw (m, a) refl) x in
             let z : 0 ≡ takeAnswer w cap (state r s) (length out) =
             first-none

@@ -3,6 +3,7 @@ ghost use mathlib.Core.Path.{_≡_};
 ghost use Prim.Native.Nat.{_≤_};
 ghost use lib.ListN.{length};
 ghost use Rattle.common.specs.Answer.{writtenOf, leftOf};
+ghost use Rattle.numbers.specs.Full.{pastHighest};
 ghost use Rattle.receiver.specs.Record.{state};
 ghost use Rattle.receiver.specs.Take.{takeAnswer, blockDue, receiverTaken, takenOf};
 use common::Written;
@@ -21,12 +22,11 @@ pub struct Taken {
 
 // The record without the block due; the next one is due.
 fn freed(r: Receiver) -> Receiver
-    requires { ⌜ r .due .0 ≤ 4294967296 ⌝ }
+    requires { ⌜ r .due .0 ≤ pastHighest ⌝ }
     ensures { λ q. ⌜ q ≡ receiverTaken 32 r ⌝ }
 {
-    let due = r.due.0;
-    let at = window::channel_place(due);
-    let next = ChannelNumber(due + 1);
+    let at = window::channel_place(r.due);
+    let next = ChannelNumber(r.due.0 + 1);
     let mut q = r;
     q.holds[at] = Hold { held: 0, length: 0 };
     q.due = next;
@@ -39,13 +39,13 @@ pub fn take(r: Receiver, store: &[u8], out: &mut [u8]) -> Taken
     ensures record { λ x. ⌜ x .receiver ≡ takenOf 32 32 (state r (now (store .entry))) (length (now (out .entry))) ⌝ }
     ensures bytes { λ x. ⌜ now (out .exit) ≡ leftOf (takeAnswer 32 32 (state r (now (store .entry))) (length (now (out .entry)))) (blockDue 32 (state r (now (store .entry)))) (now (out .entry)) ⌝ }
 {
-    if !checking::sized(checking::consistent(r), store.len()) {
+    if !window::sound(checking::consistent(r), store.len()) {
         return Taken {
             receiver: r,
             written: Written::Refused(13),
         };
     }
-    let at = window::channel_place(r.due.0);
+    let at = window::channel_place(r.due);
     let h = r.holds[at];
     if h.held != 1 {
         return Taken {
@@ -60,7 +60,7 @@ pub fn take(r: Receiver, store: &[u8], out: &mut [u8]) -> Taken
             written: Written::Refused(14),
         };
     }
-    let from = at * receiver::PLACE;
+    let from = at * window::PLACE;
     let k = common::lay(out, 0, &store[from..from + n]);
     let q = freed(r);
     Taken {

@@ -3,6 +3,7 @@ use Prim.Native.Nat.{ℕ, _+_, _≤_, _<_}
 use mathlib.Core.Bool.{true, false}
 use mathlib.Core.Path.{_≡_, ap}
 use native.Mathlib.Omega.{arith}
+use Rattle.numbers.specs.Full.{pastHighest}
 use Rattle.sender.specs.declared.Sender.{Sender}
 use Rattle.sender.specs.Record.{isPending, numberAt}
 use Rattle.sender.specs.Consistent.{consistentOf}
@@ -10,9 +11,9 @@ use Rattle.sender.specs.Facts.{consistent-facts}
 
 pub record Turnable (w : ℕ) (s : Sender) : Type 0 where
   pub low : s .low .0 ≤ s .next .0
-  pub next : s .next .0 ≤ 4294967296
+  pub next : s .next .0 ≤ pastHighest
   pub room : s .next .0 ≤ s .low .0 + w
-  pub channellow : s .channellow .0 ≤ 4294967296
+  pub channellow : s .channellow .0 ≤ pastHighest
   pub idle : (n : ℕ) → s .next .0 ≤ n → n < s .low .0 + w → isPending (numberAt w s n) ≡ false
 
 pub turnable : (w cap : ℕ) (s : Sender) → 0 < w → w ≤ cap → consistentOf w cap s ≡ true → Turnable w s

@@ -37,11 +37,11 @@ pub fn turn(s: Sender, flags: [bool; 32], upto: u64, number: u8, block: u8) -> S
     let mut i: u64 = 0;
     while i < count {
         let n = low + i;
-        let at = (n % DataNumber::WINDOW) as usize;
+        let at = window::data_place(DataNumber(n));
         let p = q.numbers[at];
         if turns(p.state, flags[at], n, upto) {
             let channel = p.channel;
-            let blockat = (channel.0 % ChannelNumber::WINDOW) as usize;
+            let blockat = window::channel_place(channel);
             let b = q.blocks[blockat];
             q.numbers[at] = NumberPlace {
                 channel,
@@ -57,8 +57,7 @@ pub fn turn(s: Sender, flags: [bool; 32], upto: u64, number: u8, block: u8) -> S
     }
     let mut k: u64 = 0;
     while k < DataNumber::WINDOW {
-        let n = q.low.0;
-        let at = (n % DataNumber::WINDOW) as usize;
+        let at = window::data_place(q.low);
         let p = q.numbers[at];
         if !checking::passes(p.state) {
             break;
@@ -68,14 +67,13 @@ pub fn turn(s: Sender, flags: [bool; 32], upto: u64, number: u8, block: u8) -> S
             tick: 0,
             state: sender::UNUSED,
         };
-        let after = DataNumber(n + 1);
+        let after = DataNumber(q.low.0 + 1);
         q.low = after;
         k += 1;
     }
     let mut m: u64 = 0;
     while m < ChannelNumber::WINDOW {
-        let c = q.channellow.0;
-        let at = (c % ChannelNumber::WINDOW) as usize;
+        let at = window::channel_place(q.channellow);
         let b = q.blocks[at];
         if b.state != sender::ACKNOWLEDGED {
             return q;
@@ -84,7 +82,7 @@ pub fn turn(s: Sender, flags: [bool; 32], upto: u64, number: u8, block: u8) -> S
             state: sender::VACANT,
             length: 0,
         };
-        let after = ChannelNumber(c + 1);
+        let after = ChannelNumber(q.channellow.0 + 1);
         q.channellow = after;
         m += 1;
     }

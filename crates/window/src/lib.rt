@@ -1,7 +1,9 @@
-// Numbers in a window: each has a place, its number modulo the window's size, and the window moves up past what is done with.
+// Numbers in a window: each has a place, its number modulo the window's size, and the window moves up past what is done with. Blocks stand
+// in a lent store at the places of their numbers.
 ghost use mathlib.Core.Path.{_≡_};
 ghost use Prim.Native.Nat.{_%_, _<_};
 ghost use Rattle.window.specs.Places.{pastOf};
+ghost use Rattle.window.specs.Store.{soundWith};
 ghost use Rattle.window.specs.EachPlace.{countOf};
 use numbers::ChannelNumber;
 use numbers::DataNumber;
@@ -11,18 +13,23 @@ pub const PLACES: usize = DataNumber::WINDOW as usize;
 
 pub const WHOLE: u8 = DataNumber::WINDOW as u8;
 
+// The bytes of a block's place, and of a store.
+pub const PLACE: usize = 1225;
+
+pub const STORE: usize = PLACES * PLACE;
+
 // The place of a data number.
-pub fn data_place(n: u64) -> usize
-    ensures { λ r. ⌜ (r ≡ n % 32) × (r < 32) ⌝ }
+pub fn data_place(n: DataNumber) -> usize
+    ensures { λ r. ⌜ (r ≡ n .0 % 32) × (r < 32) ⌝ }
 {
-    (n % DataNumber::WINDOW) as usize
+    (n.0 % DataNumber::WINDOW) as usize
 }
 
 // The place of a channel number.
-pub fn channel_place(n: u64) -> usize
-    ensures { λ r. ⌜ (r ≡ n % 32) × (r < 32) ⌝ }
+pub fn channel_place(c: ChannelNumber) -> usize
+    ensures { λ r. ⌜ (r ≡ c .0 % 32) × (r < 32) ⌝ }
 {
-    (n % ChannelNumber::WINDOW) as usize
+    (c.0 % ChannelNumber::WINDOW) as usize
 }
 
 // How far past `first` the number lies, within a window, that has this place.
@@ -44,4 +51,14 @@ pub fn count(first: u64, end: u64) -> u8
         return WHOLE;
     }
     (end - first) as u8
+}
+
+// Is a record sound with a lent store of this size, once it is known whether the record is consistent?
+pub fn sound(consistent: bool, size: usize) -> bool
+    ensures { λ b. ⌜ b ≡ soundWith 32 consistent size ⌝ }
+{
+    if !consistent {
+        return false;
+    }
+    size == STORE
 }

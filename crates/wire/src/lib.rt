@@ -7,6 +7,9 @@ pub mod reader;
 // The longest and the shortest datagram.
 pub const LONGEST: usize = 1232;
 
+// The LogWindowSize that an endpoint writes.
+pub const LOGWINDOW: u8 = 5;
+
 pub const SHORTEST: usize = 8;
 
 // The places of the six flags in the header.

@@ -1,4 +1,4 @@
--- `sender::acknowledging::flagged` meets its contract: each way out is an instance of a law.
+-- `acknowledging::flagged` meets its contract: each way out is an instance of a law.
 use mathlib.Core.Path.{refl}
 use Rattle.common.specs.Choice.{when, unless}
 use Rattle.acknowledging.proofs.flagged.Statement.{statement}

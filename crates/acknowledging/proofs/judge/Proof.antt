@@ -1,4 +1,4 @@
--- `sender::acknowledging::judge` meets its contract: each way out is an instance of a law.
+-- `acknowledging::judge` meets its contract: each way out is an instance of a law.
 use native.Mathlib.Omega.{arith}
 use borrow.Author.Needs.{needs}
 use Rattle.turning.specs.Turnable.{turnable}

@@ -1,4 +1,4 @@
--- `sender::acknowledging::judge_listed` meets its contract: each way out is an instance of a law.
+-- `acknowledging::judge_listed` meets its contract: each way out is an instance of a law.
 use mathlib.Core.Path.{sym, _∙_}
 use native.Mathlib.Omega.{arith}
 use borrow.Author.Needs.{needs}

@@ -1,4 +1,4 @@
--- `sender::acknowledging::judge_up_to` meets its contract: each way out is an instance of a law.
+-- `acknowledging::judge_up_to` meets its contract: each way out is an instance of a law.
 use mathlib.Core.Path.{sym, _∙_}
 use borrow.Author.Needs.{needs}
 use Rattle.acknowledging.proofs.Acked.{up-to-early, up-to-late, up-to-named, up-to-below}

@@ -1,4 +1,4 @@
--- `sender::acknowledging::never_sent` meets its contract: each way out is an instance of a law.
+-- `acknowledging::never_sent` meets its contract: each way out is an instance of a law.
 use mathlib.Core.Path.{refl}
 use Rattle.common.specs.Choice.{when, unless}
 use Rattle.acknowledging.proofs.never_sent.Statement.{statement}

@@ -1,4 +1,4 @@
--- `sender::acknowledging::walk` meets its contract: each way out is an instance of a law.
+-- `acknowledging::walk` meets its contract: each way out is an instance of a law.
 use Prim.Native.Nat.{_+_, _-_, _*_, _≤_}
 use mathlib.Core.Bool.{false}
 use mathlib.Core.List.{_++_}
@@ -46,6 +46,9 @@ state-requires c κs = search needs
 never-sent-requires : tie.Need-never-sent-requires Inv-loop μ-loop Inv-bytes μ-bytes
 never-sent-requires c κs = search needs
 
+data-place-requires : tie.Need-data-place-requires Inv-loop μ-loop Inv-bytes μ-bytes
+data-place-requires c κs = search needs
+
 array-read-flag : tie.Need-array-read-flag Inv-loop μ-loop Inv-bytes μ-bytes
 array-read-flag c = search needs
 
@@ -65,7 +68,7 @@ loop-less : tie.Need-loop-less Inv-loop μ-loop Inv-bytes μ-bytes
 loop-less c = search needs
 
 loop-again : tie.Need-loop-again Inv-loop μ-loop Inv-bytes μ-bytes
-loop-again c = (search needs, omega arith, c .before .before .before .before .before .loop .inv .2, state-walked _ _ (c .before .before .before .before .before .loop .i) _ _ _ _ _ _ _ _ (omega (arith, c .before .before .before .before .before .before .span .ensures)) (c .before .before .before .state .ensures) (c .before .before .never-sent .ensures) (c .before .if1 .left) (c .flagged .ensures) (c .before .before .before .before .before .loop .inv .3))
+loop-again c = (search needs, omega arith, c .before .before .before .before .before .before .loop .inv .2, state-walked _ _ (c .before .before .before .before .before .before .loop .i) _ _ _ _ _ _ _ _ _ (c .before .data-place .ensures .0) (omega (arith, c .before .before .before .before .before .before .before .span .ensures)) (c .before .before .before .before .state .ensures) (c .before .before .before .never-sent .ensures) (c .before .before .if1 .left) (c .flagged .ensures) (c .before .before .before .before .before .before .loop .inv .3))
 
 add-j : tie.Need-add-j Inv-loop μ-loop Inv-bytes μ-bytes
 add-j c = search needs
@@ -97,6 +100,7 @@ walk-spec =
     loop-holds
     state-requires
     never-sent-requires
+    data-place-requires
     array-read-flag
     flagged-requires
     array-write-flags

@@ -1,7 +1,7 @@
--- `receiver::receive` meets its contract: each way out is an instance of a law of Consistency and Receiving.
+-- `arriving::receive` meets its contract: each way out is an instance of a law of Consistency and Receiving.
 use mathlib.Core.Path.{sym, _∙_}
 use borrow.Author.Tests.{not-true, not-false}
-use Rattle.receiver.proofs.Consistency.{sound-is, sound-told}
+use Rattle.window.specs.Store.{sound-with, sound-told}
 use Rattle.arriving.proofs.Receiving.{receive-unsound, receive-refused, receive-dummy, receive-read}
 use borrow.Author.Needs.{needs}
 use Rattle.arriving.proofs.receive.Statement.{statement}
@@ -10,11 +10,11 @@ use Rattle.arriving.proofs.receive.Tie as tie
 consistent-requires : tie.Need-consistent-requires
 consistent-requires c κs = search needs
 
-sized-requires : tie.Need-sized-requires
-sized-requires c κs = search needs
+sound-requires : tie.Need-sound-requires
+sound-requires c κs = search needs
 
 returns : tie.Need-returns
-returns c = receive-unsound _ _ _ _ _ _ (sound-is _ _ _ _ (c .before .before .consistent .ensures) (c .before .sized .ensures)) (not-true _ (c .if1 .taken))
+returns c = receive-unsound _ _ _ _ _ _ (sound-with 32 _ _ _ _ (c .before .before .consistent .ensures) (c .before .sound .ensures)) (not-true _ (c .if1 .taken))
 
 read-requires : tie.Need-read-requires
 read-requires c κs = search needs
@@ -30,13 +30,13 @@ enum-known-p c = search needs
 
 judge-requires : tie.Need-judge-requires
 judge-requires c κs =
-    sound-told _ _ _ _ (c .before .before .before .before .before .before .before .consistent .ensures) (c .before .before .before .before .before .before .sized .ensures)
+    sound-told 32 _ _ _ _ (c .before .before .before .before .before .before .before .consistent .ensures) (c .before .before .before .before .before .before .sound .ensures)
     (not-false _ (c .before .before .before .before .before .if1 .left)) .0
 
 apply-requires : tie.Need-apply-requires
 apply-requires c κs =
-    let t = sound-told _ _ _ _ (c .before .before .before .before .before .before .before .before .before .consistent .ensures)
-    (c .before .before .before .before .before .before .before .before .sized .ensures) (not-false _ (c .before .before .before .before .before .before .before .if1 .left))
+    let t = sound-told 32 _ _ _ _ (c .before .before .before .before .before .before .before .before .before .consistent .ensures)
+    (c .before .before .before .before .before .before .before .before .sound .ensures) (not-false _ (c .before .before .before .before .before .before .before .if1 .left))
     in
     (t .0, (t .1, (sym (c .before .before .before .before .before .before .read .ensures) ∙ c .before .before .before .before .p .given .1, c .before .judge .ensures)))
 
@@ -46,12 +46,12 @@ number-requires c κs = search needs
 returns-2 : tie.Need-returns-2
 returns-2 c =
     receive-refused _ _ _ _ _ _
-    (sound-is _ _ _ _ (c .before .before .before .before .before .before .consistent .ensures) (c .before .before .before .before .before .sized .ensures))
+    (sound-with 32 _ _ _ _ (c .before .before .before .before .before .before .consistent .ensures) (c .before .before .before .before .before .sound .ensures))
     (not-false _ (c .before .before .before .before .if1 .left)) _ (c .before .before .before .read .ensures) _ (c .before .n .given .1)
 
 returns-3 : tie.Need-returns-3
 returns-3 c =
-    receive-dummy _ _ _ _ _ _ (sound-is _ _ _ _ (c .before .before .before .before .before .consistent .ensures) (c .before .before .before .before .sized .ensures))
+    receive-dummy _ _ _ _ _ _ (sound-with 32 _ _ _ _ (c .before .before .before .before .before .consistent .ensures) (c .before .before .before .before .sound .ensures))
     (not-false _ (c .before .before .before .if1 .left)) _ (c .before .before .read .ensures) (c .enum-told .given .1)
 
 same-length : tie.Need-same-length
@@ -60,8 +60,8 @@ same-length c = search needs
 returns-4 : tie.Need-returns-4
 returns-4 c =
     receive-read _ _ _ _ _ _
-    (sound-is _ _ _ _ (c .before .before .before .before .before .before .before .before .before .before .before .before .before .consistent .ensures)
-    (c .before .before .before .before .before .before .before .before .before .before .before .before .sized .ensures))
+    (sound-with 32 _ _ _ _ (c .before .before .before .before .before .before .before .before .before .before .before .before .before .consistent .ensures)
+    (c .before .before .before .before .before .before .before .before .before .before .before .before .sound .ensures))
     (not-false _ (c .before .before .before .before .before .before .before .before .before .before .before .if1 .left)) _
     (c .before .before .before .before .before .before .before .before .before .before .read .ensures) _ _ _ _ _
     (c .before .before .before .before .before .before .before .before .p .given .1) (c .before .before .before .before .before .judge .ensures) (c .number .ensures)
@@ -72,7 +72,7 @@ receive-spec =
     tie.close
     (tie.spec
     consistent-requires
-    sized-requires
+    sound-requires
     returns
     read-requires
     enum-known-n

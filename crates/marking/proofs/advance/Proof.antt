@@ -1,4 +1,4 @@
--- `receiver::marks::advance` meets its contract: each way out is an instance of a law of Moving.
+-- `marking::advance` meets its contract: each way out is an instance of a law of Moving.
 use native.Mathlib.Omega.{arith}
 use Prim.Native.Nat.{_+_, _-_, _≤_}
 use mathlib.Core.Path.{_≡_, refl}
@@ -11,7 +11,7 @@ use Rattle.marking.proofs.advance.Statement.{statement}
 use Rattle.marking.proofs.advance.Tie as tie
 
 abbrev Inv-loop : tie.InvT-loop
-Inv-loop next₀ k₀ next k = (k ≤ 32) × (next .base ≤ next₀ .base + k) × (slid 0 32 isMarked (32 - k) (winOf next) ≡ slid 0 32 isMarked 32 (winOf next₀))
+Inv-loop next₀ k₀ next k = (k ≤ 32) × (next .base .0 ≤ next₀ .base .0 + k) × (slid 0 32 isMarked (32 - k) (winOf next) ≡ slid 0 32 isMarked 32 (winOf next₀))
 
 abbrev μ-loop : tie.MeasureT-loop
 μ-loop next₀ k₀ next k = 32 - k
@@ -26,13 +26,13 @@ element-copy-out-if1 : tie.Need-element-copy-out-if1 Inv-loop μ-loop
 element-copy-out-if1 c = search needs
 
 returns : tie.Need-returns Inv-loop μ-loop
-returns c = slid-stop 32 _ _ _ _ (c .before .before .data-place .ensures .0) (c .if1 .taken) (c .before .before .before .before .loop .inv .2)
+returns c = slid-stop 32 _ _ _ _ (c .before .before .data-place .ensures .0) (c .if1 .taken) (c .before .before .before .before .before .loop .inv .2)
 
 element-write-next : tie.Need-element-write-next Inv-loop μ-loop
 element-write-next c = search needs
 
-add-next : tie.Need-add-next Inv-loop μ-loop
-add-next c = search needs
+add-t13 : tie.Need-add-t13 Inv-loop μ-loop
+add-t13 c = search needs
 
 add-k : tie.Need-add-k Inv-loop μ-loop
 add-k c = search needs
@@ -41,7 +41,7 @@ loop-less : tie.Need-loop-less Inv-loop μ-loop
 loop-less c = search needs
 
 loop-again : tie.Need-loop-again Inv-loop μ-loop
-loop-again c = (search needs, search needs, slid-more 32 _ _ _ _ _ (omega arith) (c .before .before .data-place .ensures .0) (c .if1 .left) (c .before .before .before .before .loop .inv .2))
+loop-again c = (search needs, search needs, slid-more 32 _ _ _ _ _ (omega arith) (c .before .before .before .data-place .ensures .0) (c .before .if1 .left) (c .before .before .before .before .before .before .loop .inv .2))
 
 returns-2 : tie.Need-returns-2 Inv-loop μ-loop
 returns-2 c = slid-done 32 _ _ _ (omega arith) (c .before .loop .inv .2)
@@ -57,7 +57,7 @@ advance-spec =
     element-copy-out-if1
     returns
     element-write-next
-    add-next
+    add-t13
     add-k
     loop-less
     loop-again

@@ -1,4 +1,4 @@
--- `receiver::marks::lift` meets its contract: each way out is an instance of a law of Moving.
+-- `marking::lift` meets its contract: each way out is an instance of a law of Moving.
 use native.Mathlib.Omega.{arith}
 use Prim.Native.Nat.{_+_, _-_, _≤_}
 use mathlib.Core.Path.{_≡_, refl}
@@ -10,7 +10,7 @@ use Rattle.marking.proofs.lift.Statement.{statement}
 use Rattle.marking.proofs.lift.Tie as tie
 
 abbrev Inv-loop : tie.InvT-loop
-Inv-loop v next₀ k₀ next k = (k ≤ 32) × (next .base ≤ next₀ .base + k) × (cleared 0 32 (32 - k) v (winOf next) ≡ cleared 0 32 32 v (winOf next₀))
+Inv-loop v next₀ k₀ next k = (k ≤ 32) × (next .base .0 ≤ next₀ .base .0 + k) × (cleared 0 32 (32 - k) (v .0) (winOf next) ≡ cleared 0 32 32 (v .0) (winOf next₀))
 
 abbrev μ-loop : tie.MeasureT-loop
 μ-loop v next₀ k₀ next k = 32 - k
@@ -19,7 +19,7 @@ loop-holds : tie.Need-loop-holds Inv-loop μ-loop
 loop-holds c = (search needs, search needs, refl)
 
 returns : tie.Need-returns Inv-loop μ-loop
-returns c = (lift-early 32 _ _ _ _ (c .before .before .loop .inv .2) (c .if1 .taken), omega arith)
+returns c = (lift-early 32 _ _ _ _ (c .before .before .before .before .before .loop .inv .2) (c .if1 .taken), omega arith)
 
 data-place-requires : tie.Need-data-place-requires Inv-loop μ-loop
 data-place-requires c κs = search needs
@@ -27,8 +27,8 @@ data-place-requires c κs = search needs
 element-write-next : tie.Need-element-write-next Inv-loop μ-loop
 element-write-next c = search needs
 
-add-next : tie.Need-add-next Inv-loop μ-loop
-add-next c = search needs
+add-t12 : tie.Need-add-t12 Inv-loop μ-loop
+add-t12 c = search needs
 
 add-k : tie.Need-add-k Inv-loop μ-loop
 add-k c = search needs
@@ -37,7 +37,7 @@ loop-less : tie.Need-loop-less Inv-loop μ-loop
 loop-less c = search needs
 
 loop-again : tie.Need-loop-again Inv-loop μ-loop
-loop-again c = (search needs, search needs, cleared-more 32 _ _ _ _ _ _ (omega arith) (c .data-place .ensures .0) (c .before .if1 .left) (c .before .before .before .loop .inv .2))
+loop-again c = (search needs, search needs, cleared-more 32 _ _ _ _ _ _ (omega arith) (c .before .data-place .ensures .0) (c .before .before .if1 .left) (c .before .before .before .before .before .before .before .loop .inv .2))
 
 larger-requires : tie.Need-larger-requires Inv-loop μ-loop
 larger-requires c κs = search needs
@@ -55,7 +55,7 @@ lift-spec =
     returns
     data-place-requires
     element-write-next
-    add-next
+    add-t12
     add-k
     loop-less
     loop-again

@@ -1,4 +1,4 @@
--- `receiver::marks::mark` meets its contract: each way out is an instance of a law of Moving.
+-- `marking::mark` meets its contract: each way out is an instance of a law of Moving.
 use mathlib.Core.Path.{refl}
 use Rattle.marking.proofs.Moving.{mark-below, mark-within}
 use borrow.Author.Needs.{needs}

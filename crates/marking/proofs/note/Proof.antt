@@ -1,4 +1,4 @@
--- `receiver::marks::note` meets its contract: base moves past marked places of the window that was lifted and marked.
+-- `marking::note` meets its contract: base moves past marked places of the window that was lifted and marked.
 use Prim.Native.Nat.{ℕ}
 use mathlib.Core.Path.{_∙_, ap}
 use Rattle.window.specs.Window.{Win, slid}
@@ -18,7 +18,7 @@ advance-requires : tie.Need-advance-requires
 advance-requires c κs = search needs
 
 returns : tie.Need-returns
-returns c = c .advance .ensures ∙ ap (slid 0 32 isMarked 32) (c .before .mark .ensures .0 ∙ ap (λ (x : Win ℕ). marked 32 x (c .before .before .before .args .n)) (c .before .before .lift .ensures .0))
+returns c = c .advance .ensures ∙ ap (slid 0 32 isMarked 32) (c .before .mark .ensures .0 ∙ ap (λ (x : Win ℕ). marked 32 x (c .before .before .before .args .n .0)) (c .before .before .lift .ensures .0))
 
 pub note-spec : {M : Type 1} → statement M
 note-spec = tie.close (tie.spec lift-requires mark-requires advance-requires returns)

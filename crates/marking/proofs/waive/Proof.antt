@@ -1,4 +1,4 @@
--- `receiver::marks::waive` meets its contract: base moves past marked places of the window that was lifted.
+-- `marking::waive` meets its contract: base moves past marked places of the window that was lifted.
 use mathlib.Core.Path.{_∙_, ap}
 use Rattle.window.specs.Window.{slid}
 use Rattle.receiver.specs.Record.{isMarked}

@@ -1,18 +1,18 @@
 -- What an answer 0 tells of a packet and of a take, and back.
 use Prim.Native.Nat.{ℕ, _+_, _≤_, _<_, max}
 use mathlib.Core.Bool.{Bool, true, false, cond, not}
-use mathlib.Core.Option.{Option, none, some}
 use mathlib.Core.Path.{_≡_, refl, sym}
 use native.Mathlib.Omega.{arith}
 use lib.Dec.{ltb}
 use lib.ListN.{length}
 use borrow.Author.Tests.{le-ltb, ltb-false, lt-leb, leb-false, not-false}
 use Rattle.common.specs.Order.{first}
+use Rattle.numbers.specs.Full.{highest}
 use Rattle.wire.specs.Round.Tests.{all-pass}
 use Rattle.receiver.specs.declared.Receiver.{Receiver}
-use Rattle.receiver.specs.Record.{highest, State, isHeld, holdAt}
+use Rattle.receiver.specs.Record.{State, isHeld, holdAt}
 use Rattle.receiver.specs.Consistent.{soundOf}
-use Rattle.receiver.specs.Packet.{Packet, waived, aoaHigh, packetTests, packetAnswer}
+use Rattle.receiver.specs.Packet.{Packet, waived, numberTests, numbersAnswer, packetAnswer}
 use Rattle.receiver.specs.Take.{takeTests, takeAnswer}
 
 pub record Accepted (w : ℕ) (r : Receiver) (p : Packet) : Type 0 where
@@ -22,20 +22,12 @@ pub record Accepted (w : ℕ) (r : Receiver) (p : Packet) : Type 0 where
   pub channelRange : p .channel ≤ highest
   pub channelNear : p .channel < r .due .0 + w
 
-pub waived-range : (a : Option ℕ) → aoaHigh a ≡ false → waived a ≤ highest
-waived-range none e = omega arith
-waived-range (some v) e = ltb-false highest v e
-
-range-waived : (a : Option ℕ) → waived a ≤ highest → aoaHigh a ≡ false
-range-waived none l = refl
-range-waived (some v) l = le-ltb highest v l
-
 pub packet-accepted : (w : ℕ) (r : Receiver) (p : Packet) → packetAnswer w r p ≡ 0 → Accepted w r p
-unfolding packetAnswer
+unfolding numbersAnswer
 packet-accepted w r p e =
-    let q = all-pass (packetTests w r p) (omega arith) (sym e) in
+    let q = all-pass (numberTests w (r .base .0) (r .due .0) (waived (p .aoa)) (p .number) (p .channel)) (omega arith) (sym e) in
     record {
-      aoaRange = waived-range (p .aoa) (q .0);
+      aoaRange = ltb-false highest (waived (p .aoa)) (q .0);
       numberRange = ltb-false highest (p .number) (q .1 .0);
       numberNear = leb-false (max (r .base .0) (waived (p .aoa)) + w) (p .number) (q .1 .1 .0);
       channelRange = ltb-false highest (p .channel) (q .1 .1 .1 .0);
@@ -43,10 +35,10 @@ packet-accepted w r p e =
     }
 
 pub accepted-packet : (w : ℕ) (r : Receiver) (p : Packet) → Accepted w r p → packetAnswer w r p ≡ 0
-unfolding packetAnswer first
+unfolding numbersAnswer first
 accepted-packet w r p k =
     rw (
-      range-waived (p .aoa) (k .aoaRange),
+      le-ltb highest (waived (p .aoa)) (k .aoaRange),
       le-ltb highest (p .number) (k .numberRange),
       lt-leb (max (r .base .0) (waived (p .aoa)) + w) (p .number) (k .numberNear),
       le-ltb highest (p .channel) (k .channelRange),

@@ -8,10 +8,12 @@ use native.Mathlib.Omega.{arith}
 use lib.ListN.{length}
 use Rattle.common.specs.Facts.{lt-or-ge, bool}
 use Rattle.common.specs.Put.{putOf, put-length}
+use Rattle.numbers.specs.Full.{highest}
+use Rattle.window.specs.Store.{placeSize, storeSize, storePlace}
 use Rattle.window.specs.Sliding.{updated}
 use Rattle.receiver.specs.declared.Hold.{Hold}
 use Rattle.receiver.specs.declared.Receiver.{Receiver}
-use Rattle.receiver.specs.Record.{highest, State, isMarked, isHeld, holding, marksOf, holdsOf, holdAt, storePlace}
+use Rattle.receiver.specs.Record.{State, isMarked, isHeld, holding, marksOf, holdsOf, holdAt}
 use Rattle.receiver.specs.Packet.{Packet, waived, keeps, holdsAfter, storeAfter, receiverAfter, waiverAfter}
 use Rattle.receiver.specs.Take.{receiverTaken}
 use Rattle.receiver.specs.Facts.{Facts}
@@ -58,7 +60,7 @@ facts-from {w} {cap} {b} {lo} {e} {d} {seen} {want} r pos fits f m z h =
       markFlag = λ n l u. subst (λ (x : ℕ). x ≤ 1) (sym (m .inv .weak .holds n l u)) (small (seen n));
       marksEnd = λ n l u t. omega (arith, m .under n (sym (mark-seen pos fits m n l u) ∙ t));
       heldShort = λ c l u t. let q = h .weak .holds c l u in
-          subst (λ (x : Hold). x .length ≤ 1225) (sym q) (h .short c (ap isHeld (sym q) ∙ t));
+          subst (λ (x : Hold). x .length ≤ placeSize) (sym q) (h .short c (ap isHeld (sym q) ∙ t));
       heldRange = λ c l u t. h .range c (ap isHeld (sym (h .weak .holds c l u)) ∙ t);
       notHeld = λ c l u t. let q = h .weak .holds c l u in q ∙ h .clear c (ap isHeld (sym q) ∙ t);
       marksSpare = m .inv .weak .spare;
@@ -71,7 +73,7 @@ facts-from {w} {cap} {b} {lo} {e} {d} {seen} {want} r pos fits f m z h =
 
 -- A packet.
 
-holds-after : {w cap : ℕ} (r : Receiver) (p : Packet) → 0 < w → w ≤ cap → Facts w cap r → Accepted w r p → length (p .block) ≤ 1225
+holds-after : {w cap : ℕ} (r : Receiver) (p : Packet) → 0 < w → w ≤ cap → Facts w cap r → Accepted w r p → length (p .block) ≤ placeSize
     → (want : ℕ → Hold) × Holds w cap (r .due .0) want (record { base = r .due .0; places = holdsAfter w r p })
 holds-after {w} {cap} r p pos fits k a short = ⊎-elim late in-time (lt-or-ge (p .channel) (r .due .0))
   where
@@ -95,7 +97,7 @@ holds-after {w} {cap} r p pos fits k a short = ⊎-elim late in-time (lt-or-ge (
     in-time : r .due .0 ≤ p .channel → Goal
     in-time ge = ⊎-elim (λ t. stays (keeps-held w r (p .channel) ge t)) (new ge) (bool (isHeld (holdAt w r (p .channel))))
 
-pub packet-facts : {w cap : ℕ} (r : Receiver) (p : Packet) → 0 < w → w ≤ cap → Facts w cap r → Accepted w r p → length (p .block) ≤ 1225
+pub packet-facts : {w cap : ℕ} (r : Receiver) (p : Packet) → 0 < w → w ≤ cap → Facts w cap r → Accepted w r p → length (p .block) ≤ placeSize
     → Facts w cap (receiverAfter w r p)
 packet-facts {w} {cap} r p pos fits k a short =
     let (want, h) = holds-after r p pos fits k a short in
@@ -120,10 +122,10 @@ taken-facts {w} {cap} r pos fits k t =
 
 -- The store.
 
-pub place-fits : (w c n : ℕ) → 0 < w → n ≤ 1225 → storePlace w c + n ≤ w * 1225
+pub place-fits : (w c n : ℕ) → 0 < w → n ≤ placeSize → storePlace w c + n ≤ storeSize w
 place-fits w c n pos l = let lw : c % w < w = mod-lt c pos in omega arith
 
-pub store-length : (w : ℕ) (s : State) (p : Packet) → 0 < w → length (s .store) ≡ w * 1225 → length (p .block) ≤ 1225
+pub store-length : (w : ℕ) (s : State) (p : Packet) → 0 < w → length (s .store) ≡ storeSize w → length (p .block) ≤ placeSize
     → length (storeAfter w s p) ≡ length (s .store)
 store-length w s p pos e short = go (keeps w (s .receiver) (p .channel))
   where

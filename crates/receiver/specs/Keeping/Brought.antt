@@ -6,6 +6,7 @@ use mathlib.Core.Option.{Option, none, some}
 use mathlib.Core.Path.{_≡_, refl, sym, ap, subst}
 use native.Mathlib.Omega.{arith}
 use lib.ListN.{length}
+use Rattle.window.specs.Store.{placeSize}
 use Rattle.wire.specs.declared.Values.{Values}
 use Rattle.wire.specs.Flags.{dataIn, aoaIn}
 use Rattle.receiver.specs.declared.Receiver.{Receiver}
@@ -33,7 +34,7 @@ packet-block r v block p e =
 abbrev pub Short : Arrival → Type 0
 Short nothing = Unit {0}
 Short (waiver v) = Unit {0}
-Short (content p) = length (p .block) ≤ 1225
+Short (content p) = length (p .block) ≤ placeSize
 
 no-block : (r : Receiver) (v : Values) (a : Arrival) → waiverFrom r v ≡ some a → Short a
 unfolding waiverFrom
@@ -45,7 +46,7 @@ no-block r v a e = go (aoaIn (v .flags)) e
         subst Short (some-once (waiver n) a ea) tt
     go false q = subst Short (some-once nothing a q) tt
 
-pub brought-short : (r : Receiver) (v : Values) (block : List ℕ) → (dataIn (v .flags) ≡ true → length block ≤ 1225)
+pub brought-short : (r : Receiver) (v : Values) (block : List ℕ) → (dataIn (v .flags) ≡ true → length block ≤ placeSize)
     → (a : Arrival) → arrivalFrom r v block ≡ some a → Short a
 unfolding arrivalFrom
 brought-short r v block f a e = go (dataIn (v .flags)) refl e
@@ -54,5 +55,5 @@ brought-short r v block f a e = go (dataIn (v .flags)) refl e
     go true t q =
         let (p, ep, ea) = on-some (packetFrom r v block) (λ p. some (content p)) a q in
         subst Short (some-once (content p) a ea)
-        (subst (λ (x : List ℕ). length x ≤ 1225) (sym (packet-block r v block p ep)) (f t))
+        (subst (λ (x : List ℕ). length x ≤ placeSize) (sym (packet-block r v block p ep)) (f t))
     go false t q = no-block r v a q

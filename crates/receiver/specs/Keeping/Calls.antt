@@ -5,23 +5,25 @@ use mathlib.Core.List.{List, [], _∷_}
 use mathlib.Core.Option.{Option, none, some}
 use mathlib.Core.Path.{_≡_, refl, sym, _∙_}
 use native.Mathlib.Omega.{arith}
-use lib.Dec.{eqb}
+use lib.Dec.{eqb, ltb}
 use lib.ListN.{length}
-use borrow.Author.Tests.{eqb-true}
+use borrow.Author.Tests.{eqb-true, ltb-false}
 use Rattle.common.specs.Order.{test}
+use Rattle.numbers.specs.Full.{highest}
+use Rattle.window.specs.Store.{placeSize}
 use Rattle.wire.specs.Round.Tests.{all-pass}
 use Rattle.wire.specs.declared.Reading.{Reading}
 use Rattle.wire.specs.declared.Reading.the-variants.{Refused, Dummy, Read}
 use Rattle.wire.specs.Read.{readOf}
 use Rattle.wire.specs.Same.{bodyIn}
 use Rattle.receiver.specs.declared.Receiver.{Receiver}
-use Rattle.receiver.specs.Record.{highest, State}
+use Rattle.receiver.specs.Record.{State}
 use Rattle.receiver.specs.Consistent.{soundOf}
-use Rattle.receiver.specs.Packet.{Packet, Arrival, nothing, waiver, content, aoaHigh, packetAnswer, arrivalAnswer, receiverAfter, waiverAfter, storeAfter, packetOf, arrivalOf}
+use Rattle.receiver.specs.Packet.{Packet, Arrival, nothing, waiver, content, packetAnswer, arrivalAnswer, receiverAfter, waiverAfter, storeAfter, packetOf, arrivalOf}
 use Rattle.receiver.specs.Take.{receiverTaken, takeAnswer, takenOf}
 use Rattle.receiver.specs.Receive.{arrivalFrom, stateFor, valuesOf, readInto, receiveOf}
 use Rattle.receiver.specs.Facts.{sound-facts, facts-sound}
-use Rattle.receiver.specs.Keeping.Accepted.{waived-range, packet-accepted, taken-held}
+use Rattle.receiver.specs.Keeping.Accepted.{packet-accepted, taken-held}
 use Rattle.receiver.specs.Keeping.After.{packet-facts, waiver-facts, taken-facts, store-length}
 use Rattle.receiver.specs.Blocks.{read-block}
 use Rattle.receiver.specs.Keeping.Brought.{Short, brought-short}
@@ -37,7 +39,7 @@ when-zero w cap n s t h f = go (eqb n 0) refl
     go true e = f (eqb-true n 0 e)
     go false e = h
 
-pub packet-sound : (w cap : ℕ) (s : State) (p : Packet) → 0 < w → w ≤ cap → length (p .block) ≤ 1225 → Sound w cap s → Sound w cap (packetOf w s p)
+pub packet-sound : (w cap : ℕ) (s : State) (p : Packet) → 0 < w → w ≤ cap → length (p .block) ≤ placeSize → Sound w cap s → Sound w cap (packetOf w s p)
 unfolding packetOf
 packet-sound w cap s p pos fits short h =
     let (k, size) = sound-facts w cap (s .receiver) (length (s .store)) h in
@@ -47,7 +49,7 @@ packet-sound w cap s p pos fits short h =
 
 waiver-range : (w : ℕ) (r : Receiver) (v : ℕ) → arrivalAnswer w r (waiver v) ≡ 0 → v ≤ highest
 unfolding arrivalAnswer
-waiver-range w r v e = waived-range (some v) (all-pass (test (aoaHigh (some v)) 7 ∷ []) (omega arith) (sym e) .0)
+waiver-range w r v e = ltb-false highest v (all-pass (test (ltb highest v) 7 ∷ []) (omega arith) (sym e) .0)
 
 pub arrival-sound : (w cap : ℕ) (s : State) (a : Arrival) → 0 < w → w ≤ cap → Short a → Sound w cap s → Sound w cap (arrivalOf w s a)
 unfolding arrivalOf

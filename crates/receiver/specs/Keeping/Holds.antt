@@ -7,12 +7,14 @@ use native.Mathlib.Omega.{arith}
 use lib.Dec.{eqb}
 use borrow.Author.Tests.{lt-ltb, le-ltb, eqb-true, eqb-false}
 use Rattle.common.specs.Facts.{lt-or-ge, bool, clash}
+use Rattle.numbers.specs.Full.{highest, pastHighest}
+use Rattle.window.specs.Store.{placeSize}
 use Rattle.window.specs.Window.{Win, put, passed}
 use Rattle.window.specs.Sliding.{Shape, Weak, updated, updated-at, updated-off, put-weak, below-weak, pass-weak}
 use Rattle.receiver.specs.declared.Hold.{Hold}
 use Rattle.receiver.specs.declared.Receiver.{Receiver}
-use Rattle.receiver.specs.Record.{highest, isHeld, empty, holding, holdsOf, holdAt}
-use Rattle.receiver.specs.Packet.{keeps}
+use Rattle.receiver.specs.Record.{isHeld, empty, holding, holdsOf, holdAt}
+use Rattle.receiver.specs.Packet.{isNew, keeps}
 use Rattle.receiver.specs.Determined.{inside, heldIn}
 use Rattle.receiver.specs.Facts.{Facts}
 use Rattle.receiver.specs.Keeping.Marks.{in-window, window-in, window-out}
@@ -20,10 +22,10 @@ use Rattle.receiver.specs.Keeping.Marks.{in-window, window-in, window-ou
 -- lo is due at the outset
 pub record Holds (w cap lo : ℕ) (want : ℕ → Hold) (m : Win Hold) : Type 0 where
   pub weak : Weak empty w cap isHeld lo want m
-  pub short : (c : ℕ) → isHeld (want c) ≡ true → want c .length ≤ 1225
+  pub short : (c : ℕ) → isHeld (want c) ≡ true → want c .length ≤ placeSize
   pub range : (c : ℕ) → isHeld (want c) ≡ true → c ≤ highest
   pub clear : (c : ℕ) → isHeld (want c) ≡ false → want c ≡ empty
-  pub lowRange : lo ≤ 4294967296
+  pub lowRange : lo ≤ pastHighest
 
 pub hold-shape : (w cap : ℕ) → 0 < w → w ≤ cap → Shape empty w cap isHeld
 hold-shape w cap pos fits = record { some = pos; fits = fits; stops = refl }
@@ -56,7 +58,7 @@ holds-outset w cap r k =
             spare = k .holdsSpare;
           };
       short = λ c t. let (l, u, x) = in-hold w r c t in
-          subst (λ (h : Hold). h .length ≤ 1225) (sym (hold-in w r c l u)) (k .heldShort c l u x);
+          subst (λ (h : Hold). h .length ≤ placeSize) (sym (hold-in w r c l u)) (k .heldShort c l u x);
       range = λ c t. let (l, u, x) = in-hold w r c t in k .heldRange c l u x;
       clear = clear;
       lowRange = k .dueRange;
@@ -97,24 +99,24 @@ wanted P c h want pc f x =
     (bool (eqb x c))
 
 module _ {w cap lo : ℕ} {want : ℕ → Hold} {m : Win Hold} (pos : 0 < w) (fits : w ≤ cap) (h : Holds w cap lo want m) where
-  with-block : {q : Win Hold} (c n : ℕ) → c ≤ highest → n ≤ 1225 → Weak empty w cap isHeld lo (updated c (holding n) want) q
+  with-block : {q : Win Hold} (c n : ℕ) → c ≤ highest → n ≤ placeSize → Weak empty w cap isHeld lo (updated c (holding n) want) q
       → Holds w cap lo (updated c (holding n) want) q
   with-block c n lc ln k =
       record {
         weak = k;
-        short = wanted (λ x y. isHeld y ≡ true → y .length ≤ 1225) c (holding n) want (λ t. ln) (h .short);
+        short = wanted (λ x y. isHeld y ≡ true → y .length ≤ placeSize) c (holding n) want (λ t. ln) (h .short);
         range = wanted (λ x y. isHeld y ≡ true → x ≤ highest) c (holding n) want (λ t. lc) (h .range);
         clear = wanted (λ x y. isHeld y ≡ false → y ≡ empty) c (holding n) want (λ t. clash true refl t) (h .clear);
         lowRange = h .lowRange;
       }
 
   -- one that is not below due is put into its place
-  pub holds-new : (c n : ℕ) → m .base ≤ c → c < lo + w → c ≤ highest → n ≤ 1225
+  pub holds-new : (c n : ℕ) → m .base ≤ c → c < lo + w → c ≤ highest → n ≤ placeSize
       → Holds w cap lo (updated c (holding n) want) (put empty w m c (holding n))
   holds-new c n ge u lc ln = with-block c n lc ln (put-weak (hold-shape w cap pos fits) c (holding n) (h .weak) ge u)
 
   -- one below due leaves the places as they are
-  pub holds-late : (c n : ℕ) → c < m .base → c < lo + w → c ≤ highest → n ≤ 1225 → Holds w cap lo (updated c (holding n) want) m
+  pub holds-late : (c n : ℕ) → c < m .base → c < lo + w → c ≤ highest → n ≤ placeSize → Holds w cap lo (updated c (holding n) want) m
   holds-late c n lt u lc ln = with-block c n lc ln (below-weak (hold-shape w cap pos fits) c (holding n) (h .weak) lt u refl)
 
   -- the one that is due is taken
@@ -129,23 +131,23 @@ module _ {w cap lo : ℕ} {want : ℕ → Hold} {m : Win Hold} (pos : 0 < w) (fi
       }
 
   -- "due .. above 4,294,967,296"
-  pub holds-range : m .base ≤ 4294967296
+  pub holds-range : m .base ≤ pastHighest
   holds-range =
       ⊎-elim
-      (λ lt. absurd (omega (arith, h .range 4294967296 (h .weak .below 4294967296 (h .lowRange) lt))))
+      (λ lt. absurd (omega (arith, h .range pastHighest (h .weak .below pastHighest (h .lowRange) lt))))
       (λ le. le)
-      (lt-or-ge 4294967296 (m .base))
+      (lt-or-ge pastHighest (m .base))
 
 -- Which blocks are kept.
 
 pub keeps-late : (w : ℕ) (r : Receiver) (c : ℕ) → c < r .due .0 → keeps w r c ≡ false
-unfolding keeps
+unfolding isNew
 keeps-late w r c h = rw (lt-ltb c (r .due .0) h) refl
 
 pub keeps-held : (w : ℕ) (r : Receiver) (c : ℕ) → r .due .0 ≤ c → isHeld (holdAt w r c) ≡ true → keeps w r c ≡ false
-unfolding keeps
+unfolding isNew
 keeps-held w r c ge t = rw (le-ltb c (r .due .0) ge) (ap not t)
 
 pub keeps-new : (w : ℕ) (r : Receiver) (c : ℕ) → r .due .0 ≤ c → isHeld (holdAt w r c) ≡ false → keeps w r c ≡ true
-unfolding keeps
+unfolding isNew
 keeps-new w r c ge t = rw (le-ltb c (r .due .0) ge) (ap not t)

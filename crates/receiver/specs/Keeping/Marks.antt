@@ -7,11 +7,12 @@ use native.Mathlib.Omega.{arith}
 use lib.Dec.{eqb}
 use borrow.Author.Tests.{lt-ltb, le-ltb, le-leb, lt-leb, eqb-true, eqb-false}
 use Rattle.common.specs.Facts.{lt-or-ge, bool, clash, not-so}
+use Rattle.numbers.specs.Full.{highest, pastHighest}
 use Rattle.window.specs.Window.{Win, here, lifted, slid}
 use Rattle.window.specs.Sliding.{Shape, Weak, Inv, updated, updated-at, updated-off, lift-weak, put-weak, below-weak, slid-inv}
 use Rattle.window.specs.Members.{withOne, one-at, one-off, one-keeps, one-or}
 use Rattle.receiver.specs.declared.Receiver.{Receiver}
-use Rattle.receiver.specs.Record.{highest, isMarked, marksOf, markAt}
+use Rattle.receiver.specs.Record.{isMarked, marksOf, markAt}
 use Rattle.receiver.specs.Packet.{marked}
 use Rattle.receiver.specs.Determined.{inside, markedIn}
 use Rattle.receiver.specs.Facts.{Facts}
@@ -26,8 +27,8 @@ pub record Marks (w cap b lo e : ℕ) (seen : ℕ → Bool) (m : Win ℕ) : Type
   pub near : e ≤ lo + w
   pub under : (n : ℕ) → seen n ≡ true → n < e
   pub last : b < e → seen (e - 1) ≡ true
-  pub lowRange : lo ≤ 4294967296
-  pub endRange : e ≤ 4294967296
+  pub lowRange : lo ≤ pastHighest
+  pub endRange : e ≤ pastHighest
 
 pub mark-shape : (w cap : ℕ) → 0 < w → w ≤ cap → Shape 0 w cap isMarked
 mark-shape w cap pos fits = record { some = pos; fits = fits; stops = refl }
@@ -171,9 +172,9 @@ module _ {w cap b lo e : ℕ} {seen : ℕ → Bool} {m : Win ℕ} (pos : 0 < w) 
   mark-seen n l u = ap isMarked (h .inv .weak .holds n l u) ∙ is-mark (seen n)
 
   -- "base .. above 4,294,967,296"
-  pub marks-range : m .base ≤ 4294967296
+  pub marks-range : m .base ≤ pastHighest
   marks-range =
       ⊎-elim
-      (λ lt. absurd (omega (arith, h .endRange, h .under 4294967296 (sym (is-mark (seen 4294967296)) ∙ h .inv .weak .below 4294967296 (h .lowRange) lt))))
+      (λ lt. absurd (omega (arith, h .endRange, h .under pastHighest (sym (is-mark (seen pastHighest)) ∙ h .inv .weak .below pastHighest (h .lowRange) lt))))
       (λ le. le)
-      (lt-or-ge 4294967296 (m .base))
+      (lt-or-ge pastHighest (m .base))

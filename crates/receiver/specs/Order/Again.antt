@@ -23,7 +23,7 @@ use Rattle.wire.specs.Round.Framing.{swapped-small}
 use Rattle.wire.specs.Round.Found.{read-found}
 use Rattle.receiver.specs.declared.Receiver.{Receiver}
 use Rattle.receiver.specs.Packet.{Packet}
-use Rattle.receiver.specs.Receive.{inPlace, onSome, dataNumber, channelNumber, aoaNumber, packetFrom}
+use Rattle.receiver.specs.Receive.{inPlace, onSome, dataNumber, channelNumber, ifFlagged, aoaNumber, packetFrom}
 use Rattle.receiver.specs.Keeping.Brought.{on-some, some-once}
 use Rattle.receiver.specs.Set.{AoaFits, Fits, Readable, packetAt}
 
@@ -93,7 +93,7 @@ module _ (w : ℕ) (g q : Receiver) (small : w ≤ 1024) (k : Above w g q) where
       (number-again (g .firstchannel .0) (g .due .0) (q .due .0) f n h e (omega (arith, k .dueHigh)) (omega (arith, k .dueLow)))
 
   aoa-again : (flag : Bool) (f : ℕ) (a : Option ℕ) → f < 65536 → aoaNumber g flag f ≡ some a → AoaFits w g a → aoaNumber q flag f ≡ some a
-  unfolding aoaNumber onSome
+  unfolding ifFlagged onSome
   aoa-again false f a h e fits = e
   aoa-again true f a h e fits =
       let (v, ev, ea) = on-some (dataNumber g f) (λ v. some (some v)) a e in

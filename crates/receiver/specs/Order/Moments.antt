@@ -11,12 +11,14 @@ use lib.Dec.{eqb}
 use lib.ListN.{length}
 use borrow.Author.Tests.{eq-eqb, eqb-true}
 use Rattle.common.specs.Facts.{lt-or-ge, bool, not-so}
+use Rattle.numbers.specs.Full.{highest}
+use Rattle.window.specs.Store.{placeSize, storeSize}
 use Rattle.window.specs.Sliding.{base-high}
 use Rattle.window.specs.Members.{In, in-map, from-map, withOne, one-again, one-or}
 use Rattle.wire.specs.Same.{bodyIn}
 use Rattle.numbers.specs.declared.DataNumber.{DataNumber}
 use Rattle.numbers.specs.declared.ChannelNumber.{ChannelNumber}
-use Rattle.receiver.specs.Record.{highest, State, isHeld, marksOf, holdsOf, holdAt, contents}
+use Rattle.receiver.specs.Record.{State, isHeld, marksOf, holdsOf, holdAt, contents}
 use Rattle.receiver.specs.Packet.{Packet, waived, packetOf, arrivalAnswer, arrivalOf, holdsAfter, storeAfter, receiverAfter, keeps}
 use Rattle.receiver.specs.Take.{takeAnswer, blockDue, receiverTaken, takenOf}
 use Rattle.receiver.specs.Receive.{onSome, arrivalFrom, valuesAnswer, valuesOf, readAnswer, readInto, receiveAnswer, receiveOf}
@@ -65,7 +67,7 @@ module _ (w cap : ℕ) (o : State) (ds : List (List ℕ)) (k : Set w cap o ds) w
   pub outset-facts : Facts w cap (o .receiver)
   outset-facts = sound-facts w cap (o .receiver) (length (o .store)) (k .outset) .0
 
-  pub outset-size : length (o .store) ≡ w * 1225
+  pub outset-size : length (o .store) ≡ storeSize w
   outset-size = sound-facts w cap (o .receiver) (length (o .store)) (k .outset) .1
 
   -- A datagram of the set.
@@ -85,14 +87,14 @@ module _ (w cap : ℕ) (o : State) (ds : List (List ℕ)) (k : Set w cap o ds) w
           ∙ sym b
           ∙ sym (body-new w o (map bringsOf ds) (bringsOf d .channel) t)
 
-  brings-short : (d : List ℕ) → In d ds → length (bringsOf d .block) ≤ 1225
+  brings-short : (d : List ℕ) → In d ds → length (bringsOf d .block) ≤ placeSize
   brings-short d i =
       let q = k .readable d i in
       let b = read-block d (q .taken) (q .reads) (q .carries) in
       let e : bringsOf d .block ≡ bodyIn d (q .taken) =
       ap (λ (p : Packet). p .block) (packet-at (o .receiver) d q)
       ∙ packet-block (o .receiver) (q .taken .values) (bodyIn d (q .taken)) (q .packet) (q .widens) in
-      subst (λ (x : List ℕ). length x ≤ 1225) (sym e) (omega (arith, b .long, b .short))
+      subst (λ (x : List ℕ). length x ≤ placeSize) (sym e) (omega (arith, b .long, b .short))
 
   aoa-high : (a : Option ℕ) → AoaFits w (o .receiver) a → (waived a ≤ o .receiver .base .0 + w) × (waived a ≤ highest)
   aoa-high none f = (omega arith, omega arith)
@@ -206,8 +208,8 @@ module _ (w cap : ℕ) (o : State) (ds : List (List ℕ)) (k : Set w cap o ds) w
               Stored w cap (o .receiver .due .0) body (withOne c has)
               (record { base = s .receiver .due .0; places = holdsAfter w (s .receiver) (bringsOf d) }) (storeAfter w s (bringsOf d))
 
-          short : length (body c) ≤ 1225
-          short = subst (λ (b : List ℕ). length b ≤ 1225) (brings-body d i) (brings-short d i)
+          short : length (body c) ≤ placeSize
+          short = subst (λ (b : List ℕ). length b ≤ placeSize) (brings-body d i) (brings-short d i)
 
           stays : keeps w (s .receiver) c ≡ false → Stored w cap (o .receiver .due .0) body (withOne c has) (holdsOf (s .receiver)) (s .store) → Goal
           stays e q = rw e q

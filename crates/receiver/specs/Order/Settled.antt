@@ -8,6 +8,7 @@ use native.Mathlib.Omega.{arith}
 use lib.Dec.{eqb}
 use lib.ListN.{length}
 use Rattle.common.specs.Facts.{bool, not-so, or-cases}
+use Rattle.window.specs.Store.{placeSize}
 use Rattle.window.specs.Places.{spread}
 use Rattle.window.specs.Free.{free, free-stops}
 use Rattle.window.specs.Sliding.{closed-base, closed-places}
@@ -37,7 +38,7 @@ idle-step w cap s room h e = rw (not-held-eleven w cap s room h e) refl
 idle-run : (w cap i : ℕ) (s : State) → Sound w cap s → dueHeld w (s .receiver) ≡ false → runOf w cap s (takesOf i) ≡ s
 unfolding runOf takesOf
 idle-run w cap zero s h e = refl
-idle-run w cap (suc i) s h e = ap (λ (x : State). runOf w cap x (takesOf i)) (idle-step w cap s 1225 h e) ∙ idle-run w cap i s h e
+idle-run w cap (suc i) s h e = ap (λ (x : State). runOf w cap x (takesOf i)) (idle-step w cap s placeSize h e) ∙ idle-run w cap i s h e
 
 held-step : (w cap : ℕ) (s : State) (room : ℕ) → Sound w cap s → dueHeld w (s .receiver) ≡ true
     → holdAt w (s .receiver) (s .receiver .due .0) .length ≤ room → stepOf w cap s (takes room) .receiver .due .0 ≡ s .receiver .due .0 + 1
@@ -91,11 +92,11 @@ module _ (w cap : ℕ) (o : State) (ds : List (List ℕ)) (k : Set w cap o ds) w
   drained (suc i) {s = s} g l room =
       let h = good-sound w cap o ds k g in
       ⊎-elim
-      (λ e. let n = held-step w cap s 1225 h e
+      (λ e. let n = held-step w cap s placeSize h e
       (good-facts w cap o ds k g .heldShort (s .receiver .due .0) (omega arith) (omega (arith, k .some)) e) in
-      drained i (take-good w cap o ds k g 1225) (omega arith) room)
+      drained i (take-good w cap o ds k g placeSize) (omega arith) room)
       (λ e. subst (λ (x : State). takeAnswer w cap x room ≡ 11)
-      (sym (ap (λ (x : State). runOf w cap x (takesOf i)) (idle-step w cap s 1225 h e) ∙ idle-run w cap i s h e))
+      (sym (ap (λ (x : State). runOf w cap x (takesOf i)) (idle-step w cap s placeSize h e) ∙ idle-run w cap i s h e))
       (not-held-eleven w cap s room h e))
       (bool (dueHeld w (s .receiver)))
 

@@ -11,12 +11,14 @@ use borrow.Author.Tests.{eqb-true, eqb-false}
 use Rattle.common.specs.Facts.{lt-or-ge, bool, clash}
 use Rattle.common.specs.Put.{putOf, put-length}
 use Rattle.common.specs.Parts.{part-laid, part-other, part-length}
+use Rattle.numbers.specs.Full.{highest}
+use Rattle.window.specs.Store.{placeSize, storeSize, storePlace}
 use Rattle.window.specs.Window.{Win, here, put, passed}
 use Rattle.window.specs.Places.{place-same}
 use Rattle.window.specs.Sliding.{updated, updated-at, updated-off}
 use Rattle.window.specs.Members.{withOne, one-at, one-off}
 use Rattle.receiver.specs.declared.Hold.{Hold}
-use Rattle.receiver.specs.Record.{highest, State, isHeld, empty, holding, holdsOf, holdAt, storePlace, contents}
+use Rattle.receiver.specs.Record.{State, isHeld, empty, holding, holdsOf, holdAt, contents}
 use Rattle.receiver.specs.Determined.{inside, heldIn}
 use Rattle.receiver.specs.Facts.{Facts}
 use Rattle.receiver.specs.Keeping.Marks.{in-window}
@@ -29,7 +31,7 @@ holdFor body has c = cond (has c) (holding (length (body c))) empty
 
 pub record Stored (w cap lo : ℕ) (body : ℕ → List ℕ) (has : ℕ → Bool) (m : Win Hold) (t : List ℕ) : Type 0 where
   pub holds : Holds w cap lo (holdFor body has) m
-  pub sized : length t ≡ w * 1225
+  pub sized : length t ≡ storeSize w
   pub bytes : (c : ℕ) → m .base ≤ c → has c ≡ true → take (length (body c)) (drop (storePlace w c) t) ≡ body c
 
 pub is-held : (body : ℕ → List ℕ) (has : ℕ → Bool) (c : ℕ) → isHeld (holdFor body has c) ≡ has c
@@ -59,9 +61,9 @@ module _ {w cap lo : ℕ} {body : ℕ → List ℕ} {has : ℕ → Bool} {m : Wi
   pub held-came : (c : ℕ) → m .base ≤ c → c < m .base + w → isHeld (here empty w m c) ≡ has c
   held-came c l u = ap isHeld (h .holds .weak .holds c l u) ∙ is-held body has c
 
-  came-short : (c : ℕ) → has c ≡ true → length (body c) ≤ 1225
+  came-short : (c : ℕ) → has c ≡ true → length (body c) ≤ placeSize
   came-short c q =
-      subst (λ (x : Hold). x .length ≤ 1225) (ap (λ (b : Bool). cond b (holding (length (body c))) empty) q)
+      subst (λ (x : Hold). x .length ≤ placeSize) (ap (λ (b : Bool). cond b (holding (length (body c))) empty) q)
       (h .holds .short c (is-held body has c ∙ q))
 
   came-near : (c : ℕ) → has c ≡ true → c < lo + w
@@ -69,7 +71,7 @@ module _ {w cap lo : ℕ} {body : ℕ → List ℕ} {has : ℕ → Bool} {m : Wi
       ⊎-elim (λ lt. lt) (λ le. clash (has c) q (sym (is-held body has c) ∙ ap isHeld (h .holds .weak .beyond c le))) (lt-or-ge c (lo + w))
 
   -- a block below due
-  pub stored-late : (c : ℕ) → c < m .base → c < lo + w → c ≤ highest → length (body c) ≤ 1225 → Stored w cap lo body (withOne c has) m t
+  pub stored-late : (c : ℕ) → c < m .base → c < lo + w → c ≤ highest → length (body c) ≤ placeSize → Stored w cap lo body (withOne c has) m t
   stored-late c lt u range short =
       record {
         holds = subst (λ (f : ℕ → Hold). Holds w cap lo f m) (hold-one body has c) (holds-late pos fits (h .holds) c (length (body c)) lt u range short);
@@ -78,7 +80,7 @@ module _ {w cap lo : ℕ} {body : ℕ → List ℕ} {has : ℕ → Bool} {m : Wi
       }
 
   -- a block that is not held yet
-  pub stored-new : (c : ℕ) → m .base ≤ c → c < lo + w → c ≤ highest → length (body c) ≤ 1225
+  pub stored-new : (c : ℕ) → m .base ≤ c → c < lo + w → c ≤ highest → length (body c) ≤ placeSize
       → Stored w cap lo body (withOne c has) (put empty w m c (holding (length (body c)))) (putOf t (storePlace w c) (body c))
   stored-new c ge u range short =
       let room : storePlace w c + length (body c) ≤ length t = omega (arith, h .sized, place-fits w c (length (body c)) pos short) in
@@ -127,7 +129,7 @@ module _ {w cap lo : ℕ} {body : ℕ → List ℕ} {has : ℕ → Bool} {m : Wi
 holding-is : (h : Hold) (n : ℕ) → isHeld h ≡ true → h .length ≡ n → h ≡ holding n
 holding-is h n p q = λ i. record { held = eqb-true (h .held) 1 p i; length = q i }
 
-module _ {w cap : ℕ} (s : State) (body : ℕ → List ℕ) (pos : 0 < w) (k : Facts w cap (s .receiver)) (size : length (s .store) ≡ w * 1225)
+module _ {w cap : ℕ} (s : State) (body : ℕ → List ℕ) (pos : 0 < w) (k : Facts w cap (s .receiver)) (size : length (s .store) ≡ storeSize w)
     (same : (c : ℕ) → heldIn w (s .receiver) c ≡ true → body c ≡ contents w s c) where
   pub body-length : (c : ℕ) → heldIn w (s .receiver) c ≡ true → length (body c) ≡ holdAt w (s .receiver) c .length
   unfolding contents

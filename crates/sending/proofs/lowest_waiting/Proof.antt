@@ -1,4 +1,4 @@
--- `sender::sending::lowest_waiting` meets its contract: each way out is an instance of a law.
+-- `sending::lowest_waiting` meets its contract: each way out is an instance of a law.
 use Prim.Native.Nat.{_-_}
 use mathlib.Core.Path.{_≡_}
 use native.Mathlib.Omega.{arith}
@@ -18,6 +18,9 @@ abbrev μ-loop : tie.MeasureT-loop
 loop-holds : tie.Need-loop-holds Inv-loop μ-loop
 loop-holds c = waiting-start _
 
+channel-place-requires : tie.Need-channel-place-requires Inv-loop μ-loop
+channel-place-requires c κs = search needs
+
 mul-b : tie.Need-mul-b Inv-loop μ-loop
 mul-b c = search needs
 
@@ -25,7 +28,7 @@ element-copy-out-b : tie.Need-element-copy-out-b Inv-loop μ-loop
 element-copy-out-b c = search needs
 
 returns : tie.Need-returns Inv-loop μ-loop
-returns c = waiting-here _ (c .before .before .before .before .loop .c) _ (omega arith) (eq-eqb _ _ (c .if1 .taken)) (c .before .before .before .before .loop .inv)
+returns c = waiting-here _ (c .before .before .before .before .before .loop .c) _ (omega arith) (rw (c .before .before .before .channel-place .ensures .0) at (eq-eqb _ _ (c .if1 .taken))) (c .before .before .before .before .before .loop .inv)
 
 add-c : tie.Need-add-c Inv-loop μ-loop
 add-c c = search needs
@@ -34,7 +37,7 @@ loop-less : tie.Need-loop-less Inv-loop μ-loop
 loop-less c = search needs
 
 loop-again : tie.Need-loop-again Inv-loop μ-loop
-loop-again c = waiting-next _ (c .before .before .before .before .loop .c) _ (omega arith) (ne-eqb _ _ (c .if1 .left)) (c .before .before .before .before .loop .inv)
+loop-again c = waiting-next _ (c .before .before .before .before .before .loop .c) _ (omega arith) (rw (c .before .before .before .channel-place .ensures .0) at (ne-eqb _ _ (c .if1 .left))) (c .before .before .before .before .before .loop .inv)
 
 returns-2 : tie.Need-returns-2 Inv-loop μ-loop
 returns-2 c = waiting-none _ (c .before .loop .c) _ (omega arith) (c .before .loop .inv)
@@ -46,6 +49,7 @@ lowest-waiting-spec =
     Inv-loop
     μ-loop
     loop-holds
+    channel-place-requires
     mul-b
     element-copy-out-b
     returns

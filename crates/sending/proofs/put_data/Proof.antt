@@ -1,4 +1,4 @@
--- `sender::sending::put_data` meets its contract: each way out is an instance of a law.
+-- `sending::put_data` meets its contract: each way out is an instance of a law.
 use mathlib.Core.Path.{_∙_, ap}
 use Prim.Native.Nat.{ℕ}
 use lib.ListN.{length}
@@ -32,9 +32,9 @@ same-length c = search needs
 
 returns : tie.Need-returns
 unfolding dataBytes
-returns c = let a = data-answer (c .before .before .before .before .before .before .before .before .args .low) (c .before .before .before .before .before .before .before .before .args .next) (c .before .before .before .before .before .before .before .before .args .channel) (c .before .before .before .before .before .before .before .before .args .block .now) (length (c .before .before .before .before .before .before .before .before .args .out .now)) (c .before .before .before .before .before .before .before .before .pre) in
-    let d = dataBytes (c .before .before .before .before .before .before .before .before .args .low) (c .before .before .before .before .before .before .before .before .args .next) (c .before .before .before .before .before .before .before .before .args .channel) (c .before .before .before .before .before .before .before .before .args .block .now) in
-    (c .before .before .write .ensures .0 ∙ ap (λ (n : ℕ). writtenOf n d) a, c .before .before .write .ensures .1 ∙ ap (λ (n : ℕ). leftOf n d (c .before .before .before .before .before .before .before .before .args .out .now)) a)
+returns c = let a = data-answer (c .before .before .before .before .before .before .before .before .before .before .before .args .low .0) (c .before .before .before .before .before .before .before .before .before .before .before .args .next .0) (c .before .before .before .before .before .before .before .before .before .before .before .args .channel .0) (c .before .before .before .before .before .before .before .before .before .before .before .args .block .now) (length (c .before .before .before .before .before .before .before .before .before .before .before .args .out .now)) (c .before .before .before .before .before .before .before .before .before .before .before .pre) in
+    let d = dataBytes (c .before .before .before .before .before .before .before .before .before .before .before .args .low .0) (c .before .before .before .before .before .before .before .before .before .before .before .args .next .0) (c .before .before .before .before .before .before .before .before .before .before .before .args .channel .0) (c .before .before .before .before .before .before .before .before .before .before .before .args .block .now) in
+    (c .before .before .write .ensures .0 ∙ ap (λ (n : ℕ). writtenOf n d) a, c .before .before .write .ensures .1 ∙ ap (λ (n : ℕ). leftOf n d (c .before .before .before .before .before .before .before .before .before .before .before .args .out .now)) a)
 
 pub put-data-spec : {M : Type 1} → statement M
 put-data-spec =

@@ -1,16 +1,16 @@
--- Each way out of the resend is a law of Resent; on the way the size and consistency make a sound state, and the tests leave only the room.
-use Prim.Native.Nat.{ℕ, _+_, _*_, _%_, _≤_}
+-- Each way out of the resend is a law of OldBlock; on the way the size and consistency make a sound state, and the tests leave only the room.
+use Prim.Native.Nat.{ℕ, _%_, _≤_}
 use mathlib.Core.Path.{_≡_, sym, _∙_}
 use mathlib.Core.Bool.{true}
 use mathlib.Core.Option.{some}
 use native.Mathlib.Omega.{arith}
-use lib.ListN.{length}
+use lib.ListN.{length, getD}
 use borrow.Author.Tests.{not-true, not-false}
-use Rattle.sender.specs.Record.{State, state, blockAt}
+use Rattle.window.specs.Store.{size-right}
+use Rattle.sender.specs.Record.{longestSent, State, state, noBlock, blockAt}
 use Rattle.sender.specs.Consistent.{soundOf}
 use Rattle.sender.specs.Send.{lowestWaiting}
-use Rattle.sender.proofs.Passing.{sound-as}
-use Rattle.sending.proofs.NewBlock.{sound-facts}
+use Rattle.sending.proofs.NewBlock.{sound-bounds}
 use Rattle.sending.proofs.OldBlock.{lowest-some, block-short, part-short, datagram-is, Ready}
 use Rattle.sending.proofs.OldBlock.{resend-unsized, resend-unfit, resend-none, resend-used, resend-full, resend-roomless, resend-sent}
 use borrow.Author.Needs.{needs}
@@ -26,28 +26,31 @@ start e = e .before .before .before .before .before
 
 -- past the first two tests they are sound
 sound-here : (e : tie.Else2) → soundOf 32 32 (start e .args .s) (length (start e .args .store .now)) ≡ true
-sound-here e = sym (sound-as _ _ _ (e .before .before .if1 .left) (e .before .consistent .ensures)) ∙ not-false _ (e .if2 .left)
+sound-here e = sym (size-right 32 _ _ _ (e .before .before .if1 .left) (e .before .consistent .ensures)) ∙ not-false _ (e .if2 .left)
 
 -- the block that waits
 abbrev from : tie.After-known-told → tie.Start
 from e = start (e .before .before .before .before)
 
 abbrev channel : tie.After-known-told → ℕ
-channel e = e .before .c .given .0 .0
+channel e = e .before .c .given .0 .0 .0
 
 waits-here : (e : tie.After-known-told) → lowestWaiting 32 (from e .args .s) ≡ some (channel e)
 waits-here e = lowest-some _ _ (sym (e .before .c .given .1) ∙ e .before .before .before .lowest-waiting .ensures)
 
-short-here : (e : tie.After-known-told) → blockAt 32 (from e .args .s) (channel e) .length ≤ 1223
+short-here : (e : tie.After-known-told) → blockAt 32 (from e .args .s) (channel e) .length ≤ longestSent
 short-here e = block-short _ _ _ (sound-here (e .before .before .before .before)) (waits-here e)
 
--- past the first five tests only the room is left to judge
-ready-here : (e : tie.Else4) → Ready (entry (from (e .before .before))) (channel (e .before .before))
+-- past the first four tests only the room is left to judge
+abbrev found : tie.Else4 → tie.After-known-told
+found e = e .before .before .before .before .before .before .before
+
+ready-here : (e : tie.Else4) → Ready (entry (from (found e))) (channel (found e))
 ready-here e =
     record {
-      sound = sound-here (e .before .before .before .before .before .before);
-      waits = waits-here (e .before .before);
-      fresh = e .before .if3 .left;
+      sound = sound-here (found e .before .before .before .before);
+      waits = waits-here (found e);
+      fresh = e .before .before .before .if3 .left;
       free = e .if4 .left;
     }
 
@@ -84,22 +87,25 @@ returns-3 c =
 
 returns-4 : tie.Need-returns-4
 returns-4 c =
-    let e = c .before in
+    let e = c .before .before .before .before in
     let b = from e in
     let l = resend-used (entry b) (b .args .tick) (b .args .out .now) (channel e) (sound-here (e .before .before .before .before)) (waits-here e) (c .if3 .taken) in
     (l .written, (l .sender, l .bytes))
 
 add-if4 : tie.Need-add-if4
 add-if4 c =
-    let f = sound-facts _ _ (sound-here (c .before .before .before .before .before)) in
-    omega (arith, f .numbers .forth, f .numbers .nextFits)
+    let f = sound-bounds _ _ (sound-here (c .before .before .before .before .before .before .before .before .before)) in
+    omega (arith, f .0 .next, f .0 .full)
 
 returns-5 : tie.Need-returns-5
 returns-5 c =
-    let e = c .before .before in
+    let e = c .before .before .before .before .before .before .before in
     let b = from e in
-    let l = resend-full (entry b) (b .args .tick) (b .args .out .now) (channel e) (sound-here (e .before .before .before .before)) (waits-here e) (c .before .if3 .left) (c .if4 .taken) in
+    let l = resend-full (entry b) (b .args .tick) (b .args .out .now) (channel e) (sound-here (e .before .before .before .before)) (waits-here e) (c .before .before .before .if3 .left) (c .if4 .taken) in
     (l .written, (l .sender, l .bytes))
+
+channel-place-requires : tie.Need-channel-place-requires
+channel-place-requires c κs = search needs
 
 mul-b : tie.Need-mul-b
 mul-b c = search needs
@@ -110,11 +116,15 @@ array-copy-out-b c = search needs
 mul-start : tie.Need-mul-start
 mul-start c = search needs
 
+-- the block's length at its place
+placed-short : (e : tie.Else4) (at : ℕ) → at ≡ channel (found e) % 32 → getD (from (found e) .args .s .blocks) at noBlock .length ≤ longestSent
+placed-short e at a = let h = short-here (found e) in rw a h
+
 cast-put-data : tie.Need-cast-put-data
-cast-put-data c = let h = short-here (c .before .before .before .before) in omega arith
+cast-put-data c = let h = placed-short (c .before .before .before) _ (c .before .before .channel-place .ensures .0) in omega arith
 
 add-put-data : tie.Need-add-put-data
-add-put-data c = let h = short-here (c .before .before .before .before) in omega arith
+add-put-data c = let h = placed-short (c .before .before .before) _ (c .before .before .channel-place .ensures .0) in omega (arith, c .before .before .channel-place .ensures .1)
 
 sub-put-data : tie.Need-sub-put-data
 sub-put-data c = search needs
@@ -124,15 +134,13 @@ part-put-data-start c = search needs
 
 part-put-data-end : tie.Need-part-put-data-end
 part-put-data-end c =
-    let e = c .before .before .before .before in
-    let b = from e in
-    let h = short-here e in
-    let f = sound-facts _ _ (sound-here (e .before .before .before .before)) in
-    let l : channel e % 32 * 1225 + blockAt 32 (b .args .s) (channel e) .length ≤ length (b .args .store .now) = omega (arith, f .store) in
-    search (needs, l)
+    let o = c .before .before .before in
+    let h = placed-short o _ (c .before .before .channel-place .ensures .0) in
+    let f = sound-bounds _ _ (sound-here (found o .before .before .before .before)) in
+    omega (arith, f .1, h, c .before .before .channel-place .ensures .1)
 
 put-data-requires : tie.Need-put-data-requires
-put-data-requires c κs = part-short _ _ _ (short-here (c .before .before .before .before .before .before))
+put-data-requires c κs = part-short _ _ _ (placed-short (c .before .before .before .before .before) _ (c .before .before .before .before .channel-place .ensures .0))
 
 enum-known-n : tie.Need-enum-known-n
 enum-known-n c = search needs
@@ -149,10 +157,11 @@ same-length c = search needs
 returns-6 : tie.Need-returns-6
 returns-6 c =
     let w = c .before .before .before .before .before in
-    let o = w .before .before .before .before .before in
-    let e = o .before .before in
+    let o = w .before .before .before .before .before .before in
+    let e = found o in
     let b = from e in
-    let l = resend-roomless (entry b) (b .args .tick) (b .args .out .now) (channel e) (ready-here o) _ (datagram-is (entry b) (channel e) (waits-here e)) _ _ _
+    let l = resend-roomless (entry b) (b .args .tick) (b .args .out .now) (channel e) (ready-here o) _
+    (datagram-is (entry b) (channel e) _ (w .before .before .before .before .before .channel-place .ensures .0) (waits-here e)) _ _ _
     (c .before .n .given .1) (w .put-data .ensures .0) (w .put-data .ensures .1) in
     (l .written, (l .sender, l .bytes))
 
@@ -162,11 +171,12 @@ same-length-2 c = search needs
 returns-7 : tie.Need-returns-7
 returns-7 c =
     let w = c .before .before .before .before .before .before in
-    let o = w .before .before .before .before .before in
-    let e = o .before .before in
+    let o = w .before .before .before .before .before .before in
+    let e = found o in
     let b = from e in
-    let l = resend-sent (entry b) (b .args .tick) (b .args .out .now) (channel e) (ready-here o) _ (datagram-is (entry b) (channel e) (waits-here e)) _ _ _ _
-    (c .before .before .k .given .1) (w .put-data .ensures .0) (w .put-data .ensures .1) (c .sent .ensures) in
+    let l = resend-sent (entry b) (b .args .tick) (b .args .out .now) (channel e) (ready-here o) _
+    (datagram-is (entry b) (channel e) _ (w .before .before .before .before .before .channel-place .ensures .0) (waits-here e)) _ _ _ _
+    (c .before .before .k .given .1) (w .put-data .ensures .0) (w .put-data .ensures .1) (rw (w .before .before .before .before .before .channel-place .ensures .0) at (c .sent .ensures)) in
     (l .written, (l .sender, l .bytes))
 
 pub resend-spec : {M : Type 1} → statement M
@@ -183,6 +193,7 @@ resend-spec =
     returns-4
     add-if4
     returns-5
+    channel-place-requires
     mul-b
     array-copy-out-b
     mul-start

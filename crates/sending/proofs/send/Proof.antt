@@ -1,14 +1,14 @@
--- Each way out of the new block's call is a law of Sent; on the way the size and consistency make a sound state, and the tests leave only the room.
+-- Each way out of the new block's call is a law of NewBlock; on the way the size and consistency make a sound state, and the tests leave only the room.
 use mathlib.Core.Path.{_≡_, sym, _∙_}
 use mathlib.Core.Bool.{true}
 use native.Mathlib.Omega.{arith}
 use lib.ListN.{length}
 use borrow.Author.Tests.{not-true, not-false}
+use Rattle.window.specs.Store.{size-right}
 use Rattle.sender.specs.Record.{State, state}
 use Rattle.sender.specs.Consistent.{soundOf}
 use Rattle.sender.specs.Send.{newDatagram}
-use Rattle.sender.proofs.Passing.{sound-as}
-use Rattle.sending.proofs.NewBlock.{Open, sound-facts, new-unsized, new-unfit, new-long, new-used, new-full, new-roomless, new-sent}
+use Rattle.sending.proofs.NewBlock.{Open, sound-bounds, new-unsized, new-unfit, new-long, new-used, new-full, new-roomless, new-sent}
 use borrow.Author.Needs.{needs}
 use Rattle.sending.proofs.send.Statement.{statement}
 use Rattle.sending.proofs.send.Tie as tie
@@ -21,11 +21,11 @@ abbrev start : tie.Else2 → tie.Start
 start e = e .before .before .before .before .before .before
 
 abbrev past : tie.Else5 → tie.Else2
-past e = e .before .before .before .before .before
+past e = e .before .before .before .before .before .before .before .before .before
 
 -- past the first two tests they are sound, past the first five only the room is left to judge
 sound-here : (e : tie.Else2) → soundOf 32 32 (start e .args .s) (length (start e .args .store .now)) ≡ true
-sound-here e = sym (sound-as _ _ _ (e .before .before .if1 .left) (e .before .consistent .ensures)) ∙ not-false _ (e .if2 .left)
+sound-here e = sym (size-right 32 _ _ _ (e .before .before .if1 .left) (e .before .consistent .ensures)) ∙ not-false _ (e .if2 .left)
 
 open-here : (e : tie.Else5) → Open (entry (start (past e))) (start (past e) .args .block .now)
 open-here e =
@@ -53,8 +53,8 @@ returns-2 c =
 
 returns-3 : tie.Need-returns-3
 returns-3 c =
-    let b = start (c .before) in
-    let l = new-long (entry b) (b .args .tick) (b .args .block .now) (b .args .out .now) (sound-here (c .before)) (c .if3 .taken) in
+    let b = start (c .before .before .before .before .before) in
+    let l = new-long (entry b) (b .args .tick) (b .args .block .now) (b .args .out .now) (sound-here (c .before .before .before .before .before)) (c .if3 .taken) in
     (l .written, (l .sender, (l .kept, l .bytes)))
 
 used-up-requires : tie.Need-used-up-requires
@@ -62,20 +62,20 @@ used-up-requires c κs = search needs
 
 returns-4 : tie.Need-returns-4
 returns-4 c =
-    let e = c .before .before .before in
+    let e = c .before .before .before .before .before .before .before in
     let b = start e in
     let l = new-used (entry b) (b .args .tick) (b .args .block .now) (b .args .out .now) _ (sound-here e) (c .before .before .if3 .left) (c .before .used-up .ensures) (c .if4 .taken) in
     (l .written, (l .sender, (l .kept, l .bytes)))
 
 full-requires : tie.Need-full-requires
 full-requires c κs =
-    let f = sound-facts _ _ (sound-here (c .before .before .before)) in
-    (omega (arith, f .numbers .forth, f .numbers .nextFits), omega (arith, f .channels .forth, f .channels .nextFits))
+    let f = sound-bounds _ _ (sound-here (c .before .before .before .before .before .before .before)) in
+    (omega (arith, f .0 .next, f .0 .full), omega (arith, f .0 .channelnext, f .0 .channelfull))
 
 returns-5 : tie.Need-returns-5
 returns-5 c =
     let u = c .before .before .before in
-    let e = u .before .before in
+    let e = u .before .before .before .before .before .before in
     let b = start e in
     let l = new-full (entry b) (b .args .tick) (b .args .block .now) (b .args .out .now) _ _ (sound-here e) (u .before .if3 .left) (u .used-up .ensures) (c .before .before .if4 .left)
     (c .before .full .ensures) (c .if5 .taken) in
@@ -102,13 +102,13 @@ put-requires c κs = search needs
 cast-sent : tie.Need-cast-sent
 cast-sent c = search needs
 
-add-sent : tie.Need-add-sent
-add-sent c =
-    let f = sound-facts _ _ (sound-here (past (c .before .before .before .before .before .before .before .before .before .before .before .before))) in
-    omega (arith, f .channels .nextFits)
+add-t34 : tie.Need-add-t34
+add-t34 c =
+    let f = sound-bounds _ _ (sound-here (past (c .before .before .before .before .before .before .before .before .before .before .before .before .before))) in
+    omega (arith, f .0 .channelfull)
 
 sent-requires : tie.Need-sent-requires
-sent-requires c κs = sound-facts _ _ (sound-here (past (c .before .before .before .before .before .before .before .before .before .before .before .before))) .numbers .nextFits
+sent-requires c κs = sound-bounds _ _ (sound-here (past (c .before .before .before .before .before .before .before .before .before .before .before .before .before))) .0 .full
 
 same-length : tie.Need-same-length
 same-length c = search needs
@@ -132,12 +132,12 @@ same-length-3 c = search needs
 returns-7 : tie.Need-returns-7
 unfolding newDatagram
 returns-7 c =
-    let k = c .before .before .before .before .before .before .before in
+    let k = c .before .before .before .before .before .before .before .before in
     let w = k .before .before .before .before in
     let o = w .before .before in
     let b = start (past o) in
     let l = new-sent (entry b) (b .args .tick) (b .args .block .now) (b .args .out .now) _ _ _ _ _ _ (open-here o) (k .k .given .1) (w .put-data .ensures .0) (w .put-data .ensures .1)
-    (c .before .before .before .before .before .channel-place .ensures .0) (c .before .before .before .put .ensures) (c .sent .ensures) in
+    (c .before .before .before .before .before .before .channel-place .ensures .0) (c .before .before .before .before .put .ensures) (c .sent .ensures) in
     (l .written, (l .sender, (l .kept, l .bytes)))
 
 pub send-spec : {M : Type 1} → statement M
@@ -159,7 +159,7 @@ send-spec =
     mul-put
     put-requires
     cast-sent
-    add-sent
+    add-t34
     sent-requires
     same-length
     returns-6

@@ -1,4 +1,4 @@
--- `sender::sweeping::counted` meets its contract: each way out is an instance of a law.
+-- `sweeping::counted` meets its contract: each way out is an instance of a law.
 use mathlib.Core.Path.{refl}
 use Rattle.common.specs.Choice.{when, unless}
 use borrow.Author.Needs.{needs}

@@ -1,4 +1,4 @@
--- `sender::sweeping::judge_all` meets its contract: each way out is an instance of a law.
+-- `sweeping::judge_all` meets its contract: each way out is an instance of a law.
 use native.Mathlib.Omega.{arith}
 use borrow.Author.Needs.{needs}
 use Rattle.sweeping.proofs.Losing.{Passed, passed-none, passed-next, passed-all}
@@ -20,6 +20,9 @@ sub-i c = search needs
 add-n : tie.Need-add-n Inv-loop μ-loop
 add-n c = search needs
 
+data-place-requires : tie.Need-data-place-requires Inv-loop μ-loop
+data-place-requires c κs = search needs
+
 mul-p : tie.Need-mul-p Inv-loop μ-loop
 mul-p c = search needs
 
@@ -33,23 +36,23 @@ array-write-flags : tie.Need-array-write-flags Inv-loop μ-loop
 array-write-flags c = search needs
 
 counted-requires : tie.Need-counted-requires Inv-loop μ-loop
-counted-requires c κs = omega (arith, c .before .before .before .before .loop .inv .countFits)
+counted-requires c κs = omega (arith, c .before .before .before .before .before .loop .inv .countFits)
 
 counted-requires-2 : tie.Need-counted-requires-2 Inv-loop μ-loop
-counted-requires-2 c κs = omega (arith, c .before .before .before .before .before .before .loop .inv .higherFits)
+counted-requires-2 c κs = omega (arith, c .before .before .before .before .before .before .before .loop .inv .higherFits)
 
 loop-less : tie.Need-loop-less Inv-loop μ-loop
 loop-less c = search needs
 
 loop-again : tie.Need-loop-again Inv-loop μ-loop
 loop-again c =
-    passed-next _ _ _ _ _ (c .before .before .before .before .before .before .before .loop .i) _ _ _ _ (omega arith)
-    (c .before .before .before .before .before .before .before .loop .inv)
+    rw (c .before .before .before .before .before .before .data-place .ensures .0) (passed-next _ _ _ _ _ (c .before .before .before .before .before .before .before .before .loop .i) _ _ _ _ (omega arith)
+    (c .before .before .before .before .before .before .before .before .loop .inv)
     (record {
-      judged = c .before .before .before .before .loses .ensures;
-      counts = c .before .before .counted .ensures;
-      receives = c .counted2 .ensures;
-    })
+      judged = rw (c .before .before .before .before .before .before .data-place .ensures .0) at (c .before .before .before .before .loses .ensures);
+      counts = rw (c .before .before .before .before .before .before .data-place .ensures .0) at (c .before .before .counted .ensures);
+      receives = rw (c .before .before .before .before .before .before .data-place .ensures .0) at (c .counted2 .ensures);
+    }))
 
 returns : tie.Need-returns Inv-loop μ-loop
 returns c = passed-all _ _ _ _ _ (c .before .loop .i) (omega arith) (c .before .loop .inv)
@@ -63,6 +66,7 @@ judge-all-spec =
     loop-holds
     sub-i
     add-n
+    data-place-requires
     mul-p
     element-copy-out-p
     loses-requires

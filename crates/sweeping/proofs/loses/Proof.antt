@@ -1,4 +1,4 @@
--- `sender::sweeping::loses` meets its contract: each way out is an instance of a law.
+-- `sweeping::loses` meets its contract: each way out is an instance of a law.
 use mathlib.Core.Path.{refl, ap}
 use lib.Dec.{leb}
 use borrow.Author.Tests.{le-leb, lt-leb}

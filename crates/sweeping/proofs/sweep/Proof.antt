@@ -1,4 +1,4 @@
--- `sender::sweeping::sweep` meets its contract: each way out is an instance of a law.
+-- `sweeping::sweep` meets its contract: each way out is an instance of a law.
 use mathlib.Core.Path.{sym, _∙_}
 use native.Mathlib.Omega.{arith}
 use borrow.Author.Tests.{not-true, not-false}

@@ -1,8 +1,9 @@
--- `receiver::take` meets its contract: each way out is an instance of a law of Consistency and Taking.
+-- `taking::take` meets its contract: each way out is an instance of a law of Consistency and Taking.
 use native.Mathlib.Omega.{arith}
 use mathlib.Core.Path.{refl}
 use borrow.Author.Tests.{not-true, not-false}
-use Rattle.receiver.proofs.Consistency.{facts, sound-is, sound-told}
+use Rattle.window.specs.Store.{sound-with, sound-told}
+use Rattle.receiver.specs.Facts.{consistent-facts}
 use Rattle.taking.proofs.Taking.{taken-short, take-unsound, take-none, take-little, take-done}
 use borrow.Author.Needs.{needs}
 use Rattle.taking.proofs.take.Statement.{statement}
@@ -11,13 +12,13 @@ use Rattle.taking.proofs.take.Tie as tie
 consistent-requires : tie.Need-consistent-requires
 consistent-requires c κs = search needs
 
-sized-requires : tie.Need-sized-requires
-sized-requires c κs = search needs
+sound-requires : tie.Need-sound-requires
+sound-requires c κs = search needs
 
 returns : tie.Need-returns
 returns c =
     take-unsound 32 32 (c .before .before .before .before .before .args .t1) (c .before .before .before .before .before .args .store .now)
-    (c .before .before .before .before .before .args .out .now) _ (sound-is _ _ _ _ (c .before .before .consistent .ensures) (c .before .sized .ensures))
+    (c .before .before .before .before .before .args .out .now) _ (sound-with 32 _ _ _ _ (c .before .before .consistent .ensures) (c .before .sound .ensures))
     (not-true _ (c .if1 .taken))
 
 channel-place-requires : tie.Need-channel-place-requires
@@ -31,22 +32,22 @@ element-copy-out-h c = search needs
 
 returns-2 : tie.Need-returns-2
 returns-2 c =
-    take-none 32 32 (c .before .before .before .before .before .before .before .before .before .args .t1)
-    (c .before .before .before .before .before .before .before .before .before .args .store .now)
-    (c .before .before .before .before .before .before .before .before .before .args .out .now) _
-    (sound-is _ _ _ _ (c .before .before .before .before .before .before .consistent .ensures) (c .before .before .before .before .before .sized .ensures))
-    (not-false _ (c .before .before .before .before .if1 .left)) _ (c .before .before .before .channel-place .ensures .0) (c .if2 .taken)
+    take-none 32 32 (c .before .before .before .before .before .before .before .before .before .before .args .t1)
+    (c .before .before .before .before .before .before .before .before .before .before .args .store .now)
+    (c .before .before .before .before .before .before .before .before .before .before .args .out .now) _
+    (sound-with 32 _ _ _ _ (c .before .before .before .before .before .before .before .consistent .ensures) (c .before .before .before .before .before .before .sound .ensures))
+    (not-false _ (c .before .before .before .before .before .if1 .left)) _ (c .before .before .before .channel-place .ensures .0) (c .if2 .taken)
 
 cast-n : tie.Need-cast-n
 cast-n c = search needs
 
 returns-3 : tie.Need-returns-3
 returns-3 c =
-    take-little 32 32 (c .before .before .before .before .before .before .before .before .before .before .before .args .t1)
-    (c .before .before .before .before .before .before .before .before .before .before .before .args .store .now)
-    (c .before .before .before .before .before .before .before .before .before .before .before .args .out .now) _
-    (sound-is _ _ _ _ (c .before .before .before .before .before .before .before .before .consistent .ensures)
-    (c .before .before .before .before .before .before .before .sized .ensures)) (not-false _ (c .before .before .before .before .before .before .if1 .left)) _
+    take-little 32 32 (c .before .before .before .before .before .before .before .before .before .before .before .before .args .t1)
+    (c .before .before .before .before .before .before .before .before .before .before .before .before .args .store .now)
+    (c .before .before .before .before .before .before .before .before .before .before .before .before .args .out .now) _
+    (sound-with 32 _ _ _ _ (c .before .before .before .before .before .before .before .before .before .consistent .ensures)
+    (c .before .before .before .before .before .before .before .before .sound .ensures)) (not-false _ (c .before .before .before .before .before .before .before .if1 .left)) _
     (c .before .before .before .before .before .channel-place .ensures .0) (c .before .before .if2 .left) _ refl (c .if3 .taken)
 
 mul-from : tie.Need-mul-from
@@ -63,10 +64,10 @@ part-lay-start c = search needs
 
 part-lay-end : tie.Need-part-lay-end
 part-lay-end c =
-    let t = sound-told _ _ _ _ (c .before .before .before .before .before .before .before .before .before .consistent .ensures)
-    (c .before .before .before .before .before .before .before .before .sized .ensures) (not-false _ (c .before .before .before .before .before .before .before .if1 .left))
+    let t = sound-told 32 _ _ _ _ (c .before .before .before .before .before .before .before .before .before .before .consistent .ensures)
+    (c .before .before .before .before .before .before .before .before .before .sound .ensures) (not-false _ (c .before .before .before .before .before .before .before .before .if1 .left))
     in
-    let l = taken-short (c .before .before .before .before .before .before .before .before .before .before .before .before .args .t1) _ _ (t .0)
+    let l = taken-short 32 32 (c .before .before .before .before .before .before .before .before .before .before .before .before .before .args .t1) _ _ (omega arith) (t .0)
     (c .before .before .before .before .before .before .channel-place .ensures .0) (c .before .before .before .if2 .left) refl in
     omega (arith, t .1, l, c .before .before .before .before .before .before .channel-place .ensures .1)
 
@@ -75,22 +76,22 @@ lay-requires c κs = search needs
 
 freed-requires : tie.Need-freed-requires
 freed-requires c κs =
-    facts _
-    (sound-told _ _ _ _ (c .before .before .before .before .before .before .before .before .before .before .before .before .before .consistent .ensures)
-    (c .before .before .before .before .before .before .before .before .before .before .before .before .sized .ensures)
-    (not-false _ (c .before .before .before .before .before .before .before .before .before .before .before .if1 .left)) .0) .dueFits
+    consistent-facts 32 32 _
+    (sound-told 32 _ _ _ _ (c .before .before .before .before .before .before .before .before .before .before .before .before .before .before .consistent .ensures)
+    (c .before .before .before .before .before .before .before .before .before .before .before .before .before .sound .ensures)
+    (not-false _ (c .before .before .before .before .before .before .before .before .before .before .before .before .if1 .left)) .0) .dueRange
 
 same-length : tie.Need-same-length
 same-length c = search needs
 
 returns-4 : tie.Need-returns-4
 returns-4 c =
-    take-done 32 32 (c .before .before .before .before .before .before .before .before .before .before .before .before .before .before .before .before .before .args .t1)
-    (c .before .before .before .before .before .before .before .before .before .before .before .before .before .before .before .before .before .args .store .now)
-    (c .before .before .before .before .before .before .before .before .before .before .before .before .before .before .before .before .before .args .out .now) _
-    (sound-is _ _ _ _ (c .before .before .before .before .before .before .before .before .before .before .before .before .before .before .consistent .ensures)
-    (c .before .before .before .before .before .before .before .before .before .before .before .before .before .sized .ensures))
-    (not-false _ (c .before .before .before .before .before .before .before .before .before .before .before .before .if1 .left)) _
+    take-done 32 32 (c .before .before .before .before .before .before .before .before .before .before .before .before .before .before .before .before .before .before .args .t1)
+    (c .before .before .before .before .before .before .before .before .before .before .before .before .before .before .before .before .before .before .args .store .now)
+    (c .before .before .before .before .before .before .before .before .before .before .before .before .before .before .before .before .before .before .args .out .now) _
+    (sound-with 32 _ _ _ _ (c .before .before .before .before .before .before .before .before .before .before .before .before .before .before .before .consistent .ensures)
+    (c .before .before .before .before .before .before .before .before .before .before .before .before .before .before .sound .ensures))
+    (not-false _ (c .before .before .before .before .before .before .before .before .before .before .before .before .before .if1 .left)) _
     (c .before .before .before .before .before .before .before .before .before .before .before .channel-place .ensures .0)
     (c .before .before .before .before .before .before .before .before .if2 .left) _ refl _ _ _ (c .before .before .before .before .before .before .if3 .left)
     (c .before .before .before .lay .ensures) (c .freed .ensures)
@@ -100,7 +101,7 @@ take-spec =
     tie.close
     (tie.spec
     consistent-requires
-    sized-requires
+    sound-requires
     returns
     channel-place-requires
     mul-h

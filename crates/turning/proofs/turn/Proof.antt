@@ -1,4 +1,4 @@
--- `sender::turning::turn` meets its contract: each way out is an instance of a law.
+-- `turning::turn` meets its contract: each way out is an instance of a law.
 use Prim.Native.Nat.{_+_, _-_, _≤_}
 use mathlib.Core.Logic.{⊎-elim}
 use mathlib.Core.Path.{_≡_, refl, sym, _∙_}
@@ -33,10 +33,13 @@ sub-count : tie.Need-sub-count Inv-loop μ-loop Inv-loop2 μ-loop2 Inv-loop3 μ-
 sub-count c = search needs
 
 loop-holds : tie.Need-loop-holds Inv-loop μ-loop Inv-loop2 μ-loop2 Inv-loop3 μ-loop3
-loop-holds c = (search needs, turn-none _ _ _)
+loop-holds c = (search needs, turn-none 32 _ _ _)
 
 add-n : tie.Need-add-n Inv-loop μ-loop Inv-loop2 μ-loop2 Inv-loop3 μ-loop3
 add-n c = search needs
+
+data-place-requires : tie.Need-data-place-requires Inv-loop μ-loop Inv-loop2 μ-loop2 Inv-loop3 μ-loop3
+data-place-requires c κs = search needs
 
 mul-p : tie.Need-mul-p Inv-loop μ-loop Inv-loop2 μ-loop2 Inv-loop3 μ-loop3
 mul-p c = search needs
@@ -51,6 +54,9 @@ array-read-turns c = search needs
 turns-requires : tie.Need-turns-requires Inv-loop μ-loop Inv-loop2 μ-loop2 Inv-loop3 μ-loop3
 turns-requires c κs = search needs
 
+channel-place-requires : tie.Need-channel-place-requires Inv-loop μ-loop Inv-loop2 μ-loop2 Inv-loop3 μ-loop3
+channel-place-requires c κs = search needs
+
 mul-b : tie.Need-mul-b Inv-loop μ-loop Inv-loop2 μ-loop2 Inv-loop3 μ-loop3
 mul-b c = search needs
 
@@ -58,15 +64,15 @@ element-copy-out-b :
     tie.Need-element-copy-out-b Inv-loop μ-loop Inv-loop2 μ-loop2 Inv-loop3 μ-loop3
 element-copy-out-b c = search needs
 
-mul-t37 : tie.Need-mul-t37 Inv-loop μ-loop Inv-loop2 μ-loop2 Inv-loop3 μ-loop3
-mul-t37 c = search needs
+mul-t34 : tie.Need-mul-t34 Inv-loop μ-loop Inv-loop2 μ-loop2 Inv-loop3 μ-loop3
+mul-t34 c = search needs
 
 element-set-from-q :
     tie.Need-element-set-from-q Inv-loop μ-loop Inv-loop2 μ-loop2 Inv-loop3 μ-loop3
 element-set-from-q c = search needs
 
-mul-t37-2 : tie.Need-mul-t37-2 Inv-loop μ-loop Inv-loop2 μ-loop2 Inv-loop3 μ-loop3
-mul-t37-2 c = search needs
+mul-t34-2 : tie.Need-mul-t34-2 Inv-loop μ-loop Inv-loop2 μ-loop2 Inv-loop3 μ-loop3
+mul-t34-2 c = search needs
 
 element-set-from-q-2 :
     tie.Need-element-set-from-q-2 Inv-loop μ-loop Inv-loop2 μ-loop2 Inv-loop3 μ-loop3
@@ -81,12 +87,15 @@ loop-less c = search needs
 loop-again : tie.Need-loop-again Inv-loop μ-loop Inv-loop2 μ-loop2 Inv-loop3 μ-loop3
 unfolding chosenBy
 loop-again c = ⊎-elim
-    (λ w. (omega arith, w .4 ∙ turn-step _ _ (c .before .before .before .before .before .before .args .s) (c .before .before .before .before .loop .q) (c .before .before .before .before .loop .i) (c .before .before .before .before .loop .inv .1) (sym (c .before .turns .ensures) ∙ w .0 .taken)))
-    (λ w. (omega arith, w .1 ∙ turn-skip _ _ (c .before .before .before .before .before .before .args .s) (c .before .before .before .before .loop .q) (c .before .before .before .before .loop .i) (c .before .before .before .before .loop .inv .1) (sym (c .before .turns .ensures) ∙ w .0 .left)))
+    (λ w. (omega arith, rw (w .2 .ensures .0, c .before .before .before .data-place .ensures .0) at (w .4) ∙ turn-step 32 _ _ (c .before .before .before .before .before .before .before .args .s) (c .before .before .before .before .before .loop .q) (c .before .before .before .before .before .loop .i) (c .before .before .before .before .before .loop .inv .1) (sym (rw (c .before .before .before .data-place .ensures .0) at (c .before .turns .ensures)) ∙ w .0 .taken)))
+    (λ w. (omega arith, w .1 ∙ turn-skip 32 _ _ (c .before .before .before .before .before .before .before .args .s) (c .before .before .before .before .before .loop .q) (c .before .before .before .before .before .loop .i) (c .before .before .before .before .before .loop .inv .1) (sym (rw (c .before .before .before .data-place .ensures .0) at (c .before .turns .ensures)) ∙ w .0 .left)))
     (c .if1 .came)
 
 loop2-holds : tie.Need-loop2-holds Inv-loop μ-loop Inv-loop2 μ-loop2 Inv-loop3 μ-loop3
 loop2-holds c = (search needs, search needs, refl)
+
+data-place-requires-2 : tie.Need-data-place-requires-2 Inv-loop μ-loop Inv-loop2 μ-loop2 Inv-loop3 μ-loop3
+data-place-requires-2 c κs = search needs
 
 mul-p-2 : tie.Need-mul-p-2 Inv-loop μ-loop Inv-loop2 μ-loop2 Inv-loop3 μ-loop3
 mul-p-2 c = search needs
@@ -98,15 +107,15 @@ element-copy-out-p-2 c = search needs
 passes-requires : tie.Need-passes-requires Inv-loop μ-loop Inv-loop2 μ-loop2 Inv-loop3 μ-loop3
 passes-requires c κs = search needs
 
-mul-t48 : tie.Need-mul-t48 Inv-loop μ-loop Inv-loop2 μ-loop2 Inv-loop3 μ-loop3
-mul-t48 c = search needs
+mul-t45 : tie.Need-mul-t45 Inv-loop μ-loop Inv-loop2 μ-loop2 Inv-loop3 μ-loop3
+mul-t45 c = search needs
 
 element-set-from-q-3 :
     tie.Need-element-set-from-q-3 Inv-loop μ-loop Inv-loop2 μ-loop2 Inv-loop3 μ-loop3
 element-set-from-q-3 c = search needs
 
-add-t47 : tie.Need-add-t47 Inv-loop μ-loop Inv-loop2 μ-loop2 Inv-loop3 μ-loop3
-add-t47 c = let e = turned-low (record { number = c .before .before .before .before .before .before .before .before .args .number; block = c .before .before .before .before .before .before .before .before .args .block }) (chosenBy 32 (c .before .before .before .before .before .before .before .before .args .t2) (c .before .before .before .before .before .before .before .before .args .upto)) (c .before .before .before .before .before .before .before .before .args .s) (c .before .before .before .before .before .before .loop .q) (c .before .before .before .before .before .before .loop .i) (c .before .before .before .before .before .before .loop .inv .1) in omega arith
+add-t54 : tie.Need-add-t54 Inv-loop μ-loop Inv-loop2 μ-loop2 Inv-loop3 μ-loop3
+add-t54 c = let e = turned-low 32 (record { number = c .before .before .before .before .before .before .before .before .before .before .args .number; block = c .before .before .before .before .before .before .before .before .before .before .args .block }) (chosenBy 32 (c .before .before .before .before .before .before .before .before .before .before .args .t2) (c .before .before .before .before .before .before .before .before .before .before .args .upto)) (c .before .before .before .before .before .before .before .before .before .before .args .s) (c .before .before .before .before .before .before .before .before .loop .q) (c .before .before .before .before .before .before .before .before .loop .i) (c .before .before .before .before .before .before .before .before .loop .inv .1) in omega arith
 
 add-k : tie.Need-add-k Inv-loop μ-loop Inv-loop2 μ-loop2 Inv-loop3 μ-loop3
 add-k c = search needs
@@ -115,10 +124,13 @@ loop2-less : tie.Need-loop2-less Inv-loop μ-loop Inv-loop2 μ-loop2 Inv-loop3 �
 loop2-less c = search needs
 
 loop2-again : tie.Need-loop2-again Inv-loop μ-loop Inv-loop2 μ-loop2 Inv-loop3 μ-loop3
-loop2-again c = (search needs, search needs, numbers-more _ _ (c .before .before .before .before .loop2 .q) (omega arith) (sym (c .before .passes .ensures) ∙ not-false _ (c .if2 .left)) ∙ c .before .before .before .before .loop2 .inv .2)
+loop2-again c = (search needs, search needs, numbers-more 32 _ _ (c .before .before .before .before .before .before .loop2 .q) _ (omega arith) (c .before .before .before .data-place2 .ensures .0) (sym (rw (c .before .before .before .data-place2 .ensures .0) at (c .before .passes .ensures)) ∙ not-false _ (c .if2 .left)) ∙ c .before .before .before .before .before .before .loop2 .inv .2)
 
 loop3-holds : tie.Need-loop3-holds Inv-loop μ-loop Inv-loop2 μ-loop2 Inv-loop3 μ-loop3
 loop3-holds c = (search needs, search needs, refl)
+
+channel-place-requires-2 : tie.Need-channel-place-requires-2 Inv-loop μ-loop Inv-loop2 μ-loop2 Inv-loop3 μ-loop3
+channel-place-requires-2 c κs = search needs
 
 mul-b-2 : tie.Need-mul-b-2 Inv-loop μ-loop Inv-loop2 μ-loop2 Inv-loop3 μ-loop3
 mul-b-2 c = search needs
@@ -128,27 +140,27 @@ element-copy-out-b-2 :
 element-copy-out-b-2 c = search needs
 
 returns : tie.Need-returns Inv-loop μ-loop Inv-loop2 μ-loop2 Inv-loop3 μ-loop3
-returns c = let ex : c .before .before .before .before .before .before .loop2 .q ≡ numbersMoved 32 32 (c .before .before .before .before .before .before .before .before .loop .q) =
+returns c = let ex : c .before .before .before .before .before .before .before .before .loop2 .q ≡ numbersMoved 32 32 (c .before .before .before .before .before .before .before .before .before .before .loop .q) =
     ⊎-elim
-    (λ w. numbers-ended _ _ (c .before .before .before .before .before .before .loop2 .k) (c .before .before .before .before .before .before .loop2 .inv .2) (omega arith))
-    (λ w. numbers-stopped _ _ (c .before .before .before .before .before .before .loop2 .k) _ (c .before .before .before .before .before .before .loop2 .inv .2) (w .2 .ensures) (not-true _ (w .3 .taken)))
-    (c .before .before .before .before .before .loop2-test .came) in
-    turned-whole _ _ _ (c .before .before .before .before .before .before .before .before .loop .q) (c .before .before .before .before .before .before .loop2 .q) _ 32 refl (turn-all _ _ _ (c .before .before .before .before .before .before .before .before .loop .q) (c .before .before .before .before .before .before .before .before .loop .i) (c .before .before .before .before .before .before .before .before .before .before .pre) (c .before .before .before .before .before .before .before .before .loop .inv .1) (omega (arith, c .before .before .before .before .before .before .before .before .before .before .pre .low))) ex (blocks-stop _ (c .before .before .before .before .loop3 .q) (ne-eqb _ _ (c .if3 .taken)) ∙ c .before .before .before .before .loop3 .inv .2)
+    (λ w. numbers-ended 32 _ _ (c .before .before .before .before .before .before .before .before .loop2 .k) (c .before .before .before .before .before .before .before .before .loop2 .inv .2) (omega arith))
+    (λ w. numbers-stopped 32 _ _ (c .before .before .before .before .before .before .before .before .loop2 .k) _ (c .before .before .before .before .before .before .before .before .loop2 .inv .2) (rw (w .2 .ensures .0) at (w .4 .ensures)) (not-true _ (w .5 .taken)))
+    (c .before .before .before .before .before .before .before .loop2-test .came) in
+    turned-whole 32 _ _ _ (c .before .before .before .before .before .before .before .before .before .before .loop .q) (c .before .before .before .before .before .before .before .before .loop2 .q) _ 32 refl (turn-all 32 _ _ _ (c .before .before .before .before .before .before .before .before .before .before .loop .q) (c .before .before .before .before .before .before .before .before .before .before .loop .i) (c .before .before .before .before .before .before .before .before .before .before .before .before .pre) (c .before .before .before .before .before .before .before .before .before .before .loop .inv .1) (omega (arith, c .before .before .before .before .before .before .before .before .before .before .before .before .pre .low))) ex (blocks-stop 32 _ (c .before .before .before .before .before .before .loop3 .q) (rw (c .before .before .before .channel-place2 .ensures .0) at (ne-eqb _ _ (c .if3 .taken))) ∙ c .before .before .before .before .before .before .loop3 .inv .2)
 
-mul-t58 : tie.Need-mul-t58 Inv-loop μ-loop Inv-loop2 μ-loop2 Inv-loop3 μ-loop3
-mul-t58 c = search needs
+mul-t57 : tie.Need-mul-t57 Inv-loop μ-loop Inv-loop2 μ-loop2 Inv-loop3 μ-loop3
+mul-t57 c = search needs
 
 element-set-from-q-4 :
     tie.Need-element-set-from-q-4 Inv-loop μ-loop Inv-loop2 μ-loop2 Inv-loop3 μ-loop3
 element-set-from-q-4 c = search needs
 
-add-t57 : tie.Need-add-t57 Inv-loop μ-loop Inv-loop2 μ-loop2 Inv-loop3 μ-loop3
-add-t57 c = let ex : c .before .before .before .before .before .before .loop2 .q ≡ numbersMoved 32 32 (c .before .before .before .before .before .before .before .before .loop .q) =
+add-t64 : tie.Need-add-t64 Inv-loop μ-loop Inv-loop2 μ-loop2 Inv-loop3 μ-loop3
+add-t64 c = let ex : c .before .before .before .before .before .before .before .before .loop2 .q ≡ numbersMoved 32 32 (c .before .before .before .before .before .before .before .before .before .before .loop .q) =
     ⊎-elim
-    (λ w. numbers-ended _ _ (c .before .before .before .before .before .before .loop2 .k) (c .before .before .before .before .before .before .loop2 .inv .2) (omega arith))
-    (λ w. numbers-stopped _ _ (c .before .before .before .before .before .before .loop2 .k) _ (c .before .before .before .before .before .before .loop2 .inv .2) (w .2 .ensures) (not-true _ (w .3 .taken)))
-    (c .before .before .before .before .before .loop2-test .came) in
-    let e = moved-channellow (record { number = c .before .before .before .before .before .before .before .before .before .before .args .number; block = c .before .before .before .before .before .before .before .before .before .before .args .block }) (chosenBy 32 (c .before .before .before .before .before .before .before .before .before .before .args .t2) (c .before .before .before .before .before .before .before .before .before .before .args .upto)) (c .before .before .before .before .before .before .before .before .before .before .args .s) (c .before .before .before .before .before .before .before .before .loop .q) (c .before .before .before .before .before .before .loop2 .q) (c .before .before .before .before .before .before .before .before .loop .i) (c .before .before .before .before .before .before .before .before .loop .inv .1) ex in omega arith
+    (λ w. numbers-ended 32 _ _ (c .before .before .before .before .before .before .before .before .loop2 .k) (c .before .before .before .before .before .before .before .before .loop2 .inv .2) (omega arith))
+    (λ w. numbers-stopped 32 _ _ (c .before .before .before .before .before .before .before .before .loop2 .k) _ (c .before .before .before .before .before .before .before .before .loop2 .inv .2) (rw (w .2 .ensures .0) at (w .4 .ensures)) (not-true _ (w .5 .taken)))
+    (c .before .before .before .before .before .before .before .loop2-test .came) in
+    let e = moved-channellow 32 (record { number = c .before .before .before .before .before .before .before .before .before .before .before .before .args .number; block = c .before .before .before .before .before .before .before .before .before .before .before .before .args .block }) (chosenBy 32 (c .before .before .before .before .before .before .before .before .before .before .before .before .args .t2) (c .before .before .before .before .before .before .before .before .before .before .before .before .args .upto)) (c .before .before .before .before .before .before .before .before .before .before .before .before .args .s) (c .before .before .before .before .before .before .before .before .before .before .loop .q) (c .before .before .before .before .before .before .before .before .loop2 .q) (c .before .before .before .before .before .before .before .before .before .before .loop .i) (c .before .before .before .before .before .before .before .before .before .before .loop .inv .1) ex in omega arith
 
 add-m : tie.Need-add-m Inv-loop μ-loop Inv-loop2 μ-loop2 Inv-loop3 μ-loop3
 add-m c = search needs
@@ -157,15 +169,15 @@ loop3-less : tie.Need-loop3-less Inv-loop μ-loop Inv-loop2 μ-loop2 Inv-loop3 �
 loop3-less c = search needs
 
 loop3-again : tie.Need-loop3-again Inv-loop μ-loop Inv-loop2 μ-loop2 Inv-loop3 μ-loop3
-loop3-again c = (search needs, search needs, blocks-more _ _ (c .before .before .before .before .loop3 .q) (omega arith) (eq-eqb _ _ (c .if3 .left)) ∙ c .before .before .before .before .loop3 .inv .2)
+loop3-again c = (search needs, search needs, blocks-more 32 _ _ (c .before .before .before .before .before .before .loop3 .q) _ (omega arith) (c .before .before .before .channel-place2 .ensures .0) (rw (c .before .before .before .channel-place2 .ensures .0) at (eq-eqb _ _ (c .if3 .left))) ∙ c .before .before .before .before .before .before .loop3 .inv .2)
 
 returns-2 : tie.Need-returns-2 Inv-loop μ-loop Inv-loop2 μ-loop2 Inv-loop3 μ-loop3
 returns-2 c = let ex : c .before .before .before .loop2 .q ≡ numbersMoved 32 32 (c .before .before .before .before .before .loop .q) =
     ⊎-elim
-    (λ w. numbers-ended _ _ (c .before .before .before .loop2 .k) (c .before .before .before .loop2 .inv .2) (omega arith))
-    (λ w. numbers-stopped _ _ (c .before .before .before .loop2 .k) _ (c .before .before .before .loop2 .inv .2) (w .2 .ensures) (not-true _ (w .3 .taken)))
+    (λ w. numbers-ended 32 _ _ (c .before .before .before .loop2 .k) (c .before .before .before .loop2 .inv .2) (omega arith))
+    (λ w. numbers-stopped 32 _ _ (c .before .before .before .loop2 .k) _ (c .before .before .before .loop2 .inv .2) (rw (w .2 .ensures .0) at (w .4 .ensures)) (not-true _ (w .5 .taken)))
     (c .before .before .loop2-test .came) in
-    turned-whole _ _ _ (c .before .before .before .before .before .loop .q) (c .before .before .before .loop2 .q) _ 32 refl (turn-all _ _ _ (c .before .before .before .before .before .loop .q) (c .before .before .before .before .before .loop .i) (c .before .before .before .before .before .before .before .pre) (c .before .before .before .before .before .loop .inv .1) (omega (arith, c .before .before .before .before .before .before .before .pre .low))) ex (blocks-end (32 - c .before .loop3 .m) (c .before .loop3 .q) (omega arith) ∙ c .before .loop3 .inv .2)
+    turned-whole 32 _ _ _ (c .before .before .before .before .before .loop .q) (c .before .before .before .loop2 .q) _ 32 refl (turn-all 32 _ _ _ (c .before .before .before .before .before .loop .q) (c .before .before .before .before .before .loop .i) (c .before .before .before .before .before .before .before .pre) (c .before .before .before .before .before .loop .inv .1) (omega (arith, c .before .before .before .before .before .before .before .pre .low))) ex (blocks-end 32 (32 - c .before .loop3 .m) (c .before .loop3 .q) (omega arith) ∙ c .before .loop3 .inv .2)
 
 pub turn-spec : {M : Type 1} → statement M
 turn-spec =
@@ -180,36 +192,40 @@ turn-spec =
     sub-count
     loop-holds
     add-n
+    data-place-requires
     mul-p
     element-copy-out-p
     array-read-turns
     turns-requires
+    channel-place-requires
     mul-b
     element-copy-out-b
-    mul-t37
+    mul-t34
     element-set-from-q
-    mul-t37-2
+    mul-t34-2
     element-set-from-q-2
     add-i
     loop-less
     loop-again
     loop2-holds
+    data-place-requires-2
     mul-p-2
     element-copy-out-p-2
     passes-requires
-    mul-t48
+    mul-t45
     element-set-from-q-3
-    add-t47
+    add-t54
     add-k
     loop2-less
     loop2-again
     loop3-holds
+    channel-place-requires-2
     mul-b-2
     element-copy-out-b-2
     returns
-    mul-t58
+    mul-t57
     element-set-from-q-4
-    add-t57
+    add-t64
     add-m
     loop3-less
     loop3-again

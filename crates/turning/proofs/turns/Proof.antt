@@ -1,4 +1,4 @@
--- `sender::turning::turns` meets its contract: each way out is an instance of a law.
+-- `turning::turns` meets its contract: each way out is an instance of a law.
 use mathlib.Core.Path.{refl}
 use borrow.Author.Tests.{eq-eqb, ne-eqb}
 use Rattle.common.specs.Choice.{when, unless}

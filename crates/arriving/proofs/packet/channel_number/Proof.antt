@@ -1,4 +1,4 @@
--- `receiver::packet::channel_number` meets its contract: each way out is an instance of a law of Fields.
+-- `arriving::packet::channel_number` meets its contract: each way out is an instance of a law of Fields.
 use Rattle.arriving.proofs.Fields.{channel-out, channel-at, channel-below}
 use borrow.Author.Needs.{needs}
 use Rattle.arriving.proofs.packet.channel_number.Statement.{statement}

@@ -1,4 +1,4 @@
--- `receiver::packet::data_number` meets its contract: each way out is an instance of a law of Fields.
+-- `arriving::packet::data_number` meets its contract: each way out is an instance of a law of Fields.
 use Rattle.arriving.proofs.Fields.{data-out, data-at, data-below}
 use borrow.Author.Needs.{needs}
 use Rattle.arriving.proofs.packet.data_number.Statement.{statement}

@@ -1,4 +1,4 @@
--- `receiver::packet::hold` meets its contract: each way out is an instance of a law of Applying.
+-- `arriving::packet::hold` meets its contract: each way out is an instance of a law of Applying.
 use mathlib.Core.Path.{refl}
 use Rattle.arriving.proofs.Applying.{kept-late, kept-held, kept-new}
 use borrow.Author.Needs.{needs}
@@ -6,12 +6,12 @@ use Rattle.arriving.proofs.packet.hold.Statement.{statement}
 use Rattle.arriving.proofs.packet.hold.Tie as tie
 
 returns : tie.Need-returns
-returns c = let k = kept-late (c .before .before .before .args .due) (c .before .before .before .args .c) (c .before .before .before .args .h) (c .if1 .taken) in (rw k refl, rw k refl)
+returns c = let k = kept-late (c .before .before .before .before .before .args .due .0) (c .before .before .before .before .before .args .c .0) (c .before .before .before .before .before .args .h) (c .if1 .taken) in (rw k refl, rw k refl)
 
 returns-2 : tie.Need-returns-2
 returns-2 c =
-    let k = kept-held (c .before .before .before .before .before .args .due) (c .before .before .before .before .before .args .c)
-    (c .before .before .before .before .before .args .h) (c .before .before .if1 .left) (c .if2 .taken) in (rw k refl, rw k refl)
+    let k = kept-held (c .before .before .before .before .before .before .before .args .due .0) (c .before .before .before .before .before .before .before .args .c .0)
+    (c .before .before .before .before .before .before .before .args .h) (c .before .before .if1 .left) (c .if2 .taken) in (rw k refl, rw k refl)
 
 channel-place-requires : tie.Need-channel-place-requires
 channel-place-requires c κs = search needs
@@ -30,9 +30,9 @@ same-length c = search needs
 
 returns-3 : tie.Need-returns-3
 returns-3 c =
-    let k = kept-new (c .before .before .before .before .before .before .before .before .before .before .args .due)
-    (c .before .before .before .before .before .before .before .before .before .before .args .c)
-    (c .before .before .before .before .before .before .before .before .before .before .args .h) (c .before .before .before .before .before .before .before .if1 .left)
+    let k = kept-new (c .before .before .before .before .before .before .before .before .before .before .before .before .args .due .0)
+    (c .before .before .before .before .before .before .before .before .before .before .before .before .args .c .0)
+    (c .before .before .before .before .before .before .before .before .before .before .before .before .args .h) (c .before .before .before .before .before .before .before .if1 .left)
     (c .before .before .before .before .before .if2 .left) in
     (rw k refl, rw (k, ← c .before .before .before .before .channel-place .ensures .0) (c .before .before .copy-part .ensures))
 

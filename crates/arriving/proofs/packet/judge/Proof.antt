@@ -1,6 +1,6 @@
--- `receiver::packet::judge` meets its contract: each way out is an instance of a law of Consistency and Judging.
+-- `arriving::packet::judge` meets its contract: each way out is an instance of a law of Consistency and Judging.
 use mathlib.Core.Path.{sym, _∙_}
-use Rattle.receiver.proofs.Consistency.{facts}
+use Rattle.receiver.specs.Facts.{consistent-facts}
 use Rattle.arriving.proofs.Judging.{content-waived, content-number, content-channel, content-refused, content-accepted, waiver-absent, waiver-out, waiver-high, waiver-given}
 use borrow.Author.Needs.{needs}
 use Rattle.arriving.proofs.packet.judge.Statement.{statement}
@@ -13,7 +13,7 @@ flag-requires-2 : tie.Need-flag-requires-2
 flag-requires-2 c κs = search needs
 
 waived-to-requires : tie.Need-waived-to-requires
-waived-to-requires c κs = facts _ (c .before .before .before .before .before .before .before .pre) .baseFits
+waived-to-requires c κs = consistent-facts 32 32 _ (c .before .before .before .before .before .before .before .pre) .baseRange
 
 enum-known-u : tie.Need-enum-known-u
 enum-known-u c = search needs
@@ -29,7 +29,7 @@ returns c =
     (c .before .before .before .before .before .before .before .flag .ensures) (c .before .before .waived-to .ensures) (c .enum-told .given .1)
 
 data-number-requires : tie.Need-data-number-requires
-data-number-requires c κs = facts _ (c .before .before .before .before .before .before .before .before .before .before .before .pre) .baseFits
+data-number-requires c κs = consistent-facts 32 32 _ (c .before .before .before .before .before .before .before .before .before .before .before .pre) .baseRange
 
 enum-known-n : tie.Need-enum-known-n
 enum-known-n c = search needs
@@ -45,7 +45,7 @@ returns-2 c =
     c .before .before .before .before .before .before .before .before .before .if1 .taken) _ (c .before .before .data-number .ensures) (c .enum-told2 .given .1)
 
 channel-number-requires : tie.Need-channel-number-requires
-channel-number-requires c κs = facts _ (c .before .before .before .before .before .before .before .before .before .before .before .before .before .before .before .pre) .dueFits
+channel-number-requires c κs = consistent-facts 32 32 _ (c .before .before .before .before .before .before .before .before .before .before .before .before .before .before .before .pre) .dueRange
 
 enum-known-c : tie.Need-enum-known-c
 enum-known-c c = search needs
@@ -64,9 +64,9 @@ returns-3 c =
 
 number-answer-requires : tie.Need-number-answer-requires
 number-answer-requires c κs =
-    let f = facts _
+    let f = consistent-facts 32 32 _
     (c .before .before .before .before .before .before .before .before .before .before .before .before .before .before .before .before .before .before .before .pre) in
-    (f .baseFits, f .dueFits)
+    (f .baseRange, f .dueRange)
 
 returns-4 : tie.Need-returns-4
 returns-4 c =
@@ -95,7 +95,7 @@ returns-5 c =
     (c .before .before .before .before .before .channel-number .ensures) (c .before .before .before .c .given .1) (c .before .number-answer .ensures) (c .if2 .left)
 
 data-number-requires-2 : tie.Need-data-number-requires-2
-data-number-requires-2 c κs = facts _ (c .before .before .before .before .before .before .pre) .baseFits
+data-number-requires-2 c κs = consistent-facts 32 32 _ (c .before .before .before .before .before .before .pre) .baseRange
 
 enum-known-u-2 : tie.Need-enum-known-u-2
 enum-known-u-2 c = search needs
@@ -112,19 +112,19 @@ returns-6 c =
 
 returns-7 : tie.Need-returns-7
 returns-7 c =
-    waiver-high _ (c .before .before .before .before .before .before .before .before .before .before .before .args .r)
-    (c .before .before .before .before .before .before .before .before .before .before .before .args .v) _
-    (c .before .before .before .before .before .before .before .flag2 .ensures) (c .before .before .before .before .before .before .if1 .left) _
-    (c .before .before .before .before .before .before .before .before .flag .ensures) (c .before .before .before .before .before .if3 .taken) _
-    (c .before .before .before .before .data-number2 .ensures) _ (c .before .before .u2 .given .1) (c .if4 .taken)
+    waiver-high _ (c .before .before .before .before .before .before .before .before .before .before .before .before .args .r)
+    (c .before .before .before .before .before .before .before .before .before .before .before .before .args .v) _
+    (c .before .before .before .before .before .before .before .before .flag2 .ensures) (c .before .before .before .before .before .before .before .if1 .left) _
+    (c .before .before .before .before .before .before .before .before .before .flag .ensures) (c .before .before .before .before .before .before .if3 .taken) _
+    (c .before .before .before .before .before .data-number2 .ensures) _ (c .before .before .before .u2 .given .1) (c .if4 .taken)
 
 returns-8 : tie.Need-returns-8
 returns-8 c =
-    waiver-given _ (c .before .before .before .before .before .before .before .before .before .before .before .args .r)
-    (c .before .before .before .before .before .before .before .before .before .before .before .args .v) _
-    (c .before .before .before .before .before .before .before .flag2 .ensures) (c .before .before .before .before .before .before .if1 .left) _
-    (c .before .before .before .before .before .before .before .before .flag .ensures) (c .before .before .before .before .before .if3 .taken) _
-    (c .before .before .before .before .data-number2 .ensures) _ (c .before .before .u2 .given .1) (c .if4 .left)
+    waiver-given _ (c .before .before .before .before .before .before .before .before .before .before .before .before .args .r)
+    (c .before .before .before .before .before .before .before .before .before .before .before .before .args .v) _
+    (c .before .before .before .before .before .before .before .before .flag2 .ensures) (c .before .before .before .before .before .before .before .if1 .left) _
+    (c .before .before .before .before .before .before .before .before .before .flag .ensures) (c .before .before .before .before .before .before .if3 .taken) _
+    (c .before .before .before .before .before .data-number2 .ensures) _ (c .before .before .before .u2 .given .1) (c .if4 .left)
 
 returns-9 : tie.Need-returns-9
 returns-9 c =

@@ -1,4 +1,4 @@
--- `receiver::packet::waived_to` meets its contract: each way out is an instance of a law of Fields.
+-- `arriving::packet::waived_to` meets its contract: each way out is an instance of a law of Fields.
 use Rattle.arriving.proofs.Fields.{aoa-given, aoa-absent}
 use borrow.Author.Needs.{needs}
 use Rattle.arriving.proofs.packet.waived_to.Statement.{statement}

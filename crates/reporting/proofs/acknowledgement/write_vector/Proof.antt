@@ -5,7 +5,7 @@ use mathlib.Core.Path.{_≡_, refl, sym, _∙_, ap}
 use lib.ListN.{replicate, length, take}
 use Rattle.receiver.specs.AcknowledgeLaws.{states-length}
 use Rattle.receiver.specs.Acknowledge.{statesFrom}
-use Rattle.receiver.proofs.Consistency.{facts}
+use Rattle.receiver.specs.Facts.{consistent-facts}
 use Rattle.reporting.proofs.Vectors.{states-none, states-step, states-done, vector-coded, vector-never}
 use Rattle.reporting.proofs.Acknowledging.{vector-written}
 use borrow.Author.Needs.{needs}
@@ -24,8 +24,8 @@ sub-n c = search needs
 loop-holds : tie.Need-loop-holds Inv-loop μ-loop
 loop-holds c = (search needs, search needs, states-none 32 (c .before .args .t1) _)
 
-add-data-place : tie.Need-add-data-place Inv-loop μ-loop
-add-data-place c = let f = facts (c .before .before .before .args .t1) (c .before .before .before .pre .0) in omega (arith, f .baseFits, f .endNear)
+add-t20 : tie.Need-add-t20 Inv-loop μ-loop
+add-t20 c = let f = consistent-facts 32 32 (c .before .before .before .args .t1) (c .before .before .before .pre .0) in omega (arith, f .baseRange, f .endNear)
 
 data-place-requires : tie.Need-data-place-requires Inv-loop μ-loop
 data-place-requires c κs = search needs
@@ -34,7 +34,7 @@ element-copy-out-m : tie.Need-element-copy-out-m Inv-loop μ-loop
 element-copy-out-m c = search needs
 
 array-write-states : tie.Need-array-write-states Inv-loop μ-loop
-array-write-states c = omega (arith, facts (c .before .before .before .before .before .args .t1) (c .before .before .before .before .before .pre .0) .endNear)
+array-write-states c = omega (arith, consistent-facts 32 32 (c .before .before .before .before .before .args .t1) (c .before .before .before .before .before .pre .0) .endNear)
 
 add-i : tie.Need-add-i Inv-loop μ-loop
 add-i c = search needs
@@ -47,12 +47,12 @@ loop-again c = (
   search needs,
   search needs,
   states-step 32 (c .before .before .before .before .before .args .t1) _ _ _ _
-      (omega (arith, facts (c .before .before .before .before .before .args .t1) (c .before .before .before .before .before .pre .0) .endNear))
+      (omega (arith, consistent-facts 32 32 (c .before .before .before .before .before .args .t1) (c .before .before .before .before .before .pre .0) .endNear))
       (c .before .before .before .loop .inv .2) (c .before .data-place .ensures .0),
 )
 
 array-share-prefix-states : tie.Need-array-share-prefix-states Inv-loop μ-loop
-array-share-prefix-states c = omega (arith, facts (c .before .before .before .args .t1) (c .before .before .before .pre .0) .endNear, c .before .loop .inv .1)
+array-share-prefix-states c = omega (arith, consistent-facts 32 32 (c .before .before .before .args .t1) (c .before .before .before .pre .0) .endNear, c .before .loop .inv .1)
 
 slice-aggregate-write : tie.Need-slice-aggregate-write Inv-loop μ-loop
 slice-aggregate-write c =
@@ -83,8 +83,8 @@ returns c =
 cast-base : tie.Need-cast-base Inv-loop μ-loop
 cast-base c = search needs
 
-cast-t33 : tie.Need-cast-t33 Inv-loop μ-loop
-cast-t33 c =
+cast-t34 : tie.Need-cast-t34 Inv-loop μ-loop
+cast-t34 c =
     omega (
       arith,
       vector-coded (c .before .before .before .before .before .before .before .before .before .before .args .t1)
@@ -144,7 +144,7 @@ write-vector-spec =
     μ-loop
     sub-n
     loop-holds
-    add-data-place
+    add-t20
     data-place-requires
     element-copy-out-m
     array-write-states
@@ -159,7 +159,7 @@ write-vector-spec =
     enum-told
     returns
     cast-base
-    cast-t33
+    cast-t34
     slice-aggregate-write-3
     array-share-prefix-coded
     slice-aggregate-write-4
