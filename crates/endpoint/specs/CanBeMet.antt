@@ -53,10 +53,10 @@ read-once : (p q : Packet) → Read p ≡ Read q → p ≡ q
 read-once p q e = cc
 
 -- the flags of a datagram that reads as found
-flags-of : (d : List ℕ) (n : ℕ) → readOf d ≡ Read (found d) → found d .values .flags ≡ n → (p : Packet) → readOf d ≡ Read p → p .values .flags ≡ n
+pub flags-of : (d : List ℕ) (n : ℕ) → readOf d ≡ Read (found d) → found d .values .flags ≡ n → (p : Packet) → readOf d ≡ Read p → p .values .flags ≡ n
 flags-of d n r f p q = ap (λ (x : Packet). x .values .flags) (read-once p (found d) (sym q ∙ r)) ∙ f
 
-abbrev Reads : List ℕ → ℕ → Type 0
+abbrev pub Reads : List ℕ → ℕ → Type 0
 Reads d n = (readOf d ≡ Read (found d)) × (found d .values .flags ≡ n)
 
 all-read : Reads five 4 × Reads waiving 20 × Reads late 20 × Reads oneAck 1

@@ -13,6 +13,8 @@ pub mod AnyOrderOfData
 pub mod AnyOrderOfAcknowledgements
 pub mod CanBeMet
 pub mod ThirtyTwoCanBeMet
+pub mod UsedOutset
+pub mod UsedOutsetCanBeMet
 pub mod Refused
 pub mod Steps
 pub mod Follows

@@ -7,14 +7,13 @@ use native.Mathlib.Omega.{arith}
 use lib.Dec.{eqb}
 use lib.ListN.{length}
 use borrow.Author.Tests.{ne-eqb}
-use Rattle.common.specs.declared.Written.{Written}
 use Rattle.common.specs.declared.Written.the-variants.{Refused, Wrote}
 use Rattle.common.specs.Answer.{writtenOf}
 use Rattle.wire.specs.declared.Reading.{Reading}
 use Rattle.wire.specs.declared.Reading.the-variants as reading
 use Rattle.wire.specs.Read.{readOf}
 use Rattle.receiver.specs.declared.Receiver.{Receiver}
-use Rattle.receiver.specs.Take.{takeAnswer, receiverTaken, takenOf}
+use Rattle.receiver.specs.Take.{takeAnswer, takenOf}
 use Rattle.sender.specs.declared.Sender.{Sender}
 use Rattle.sender.specs.Record as sending
 use Rattle.sender.specs.Send.{newAnswer, newOf, resendAnswer, resendOf}
