@@ -1,6 +1,7 @@
 -- Demand 3, second half, for the endpoint: "with no send, resend or sweep between, any set of packets carrying an acknowledgement only, in any order, repeats included,
 -- is accepted or refused alike, and a pending packet becomes received exactly if an accepted one names it." The outset e is any endpoint whose two halves are as
--- receiving asks. By the calls cs the acknowledgements ds are received, with the data and takes es between (Between, in History.antt).
+-- receiving asks. By the calls cs the acknowledgements ds are received, with the events es between, takes and datagrams with no acknowledgement (Between, in
+-- History.antt).
 use Prim.Native.Nat.{ℕ, _≤_, _<_}
 use mathlib.Core.Bool.{true}
 use mathlib.Core.List.{List}
@@ -21,8 +22,8 @@ use Rattle.sender.specs.Run.{run, Named, namedIn, hasReceived}
 use Rattle.sender.specs.AnyOrder as alone
 use Rattle.endpoint.specs.Receive.{Halves, receiverOf, soundOf, receiveAnswer}
 use Rattle.endpoint.specs.Calls.{Endpoint, Call, callsOf}
-use Rattle.endpoint.specs.History.{OnlyData, OnlyAck, Between, after, handed, handedBy}
-use Rattle.endpoint.specs.Steps.{joined, sound-halves, ack-answer, data-answer}
+use Rattle.endpoint.specs.History.{NoAck, OnlyAck, Between, after, handed, handedBy}
+use Rattle.endpoint.specs.Steps.{joined, sound-halves, ack-answer, no-ack-answer}
 use Rattle.endpoint.specs.Follows.{with, both, after-is, handed-is, between-plain, between-acks, between-is, between-hands, run-sound}
 
 -- some datagram of the list reads, is accepted at the outset, and names number n
@@ -58,17 +59,17 @@ module _ (w cap : ℕ) (lw : 0 < w) (uw : w ≤ cap) (e : Endpoint) (h : soundOf
         ∙ alone.answered-alike w cap lw uw (e .halves .sender) sender-sound ds d
         ∙ sym (ack-answer w cap (e .halves) d o receiver-sound)
 
-    -- The receiver's half sees nothing of the acknowledgements: it and its store are what the data and takes alone leave, each datagram of data gets the answer
-    -- that it gets after these alone, and the same blocks are handed over.
+    -- The receiver's half sees nothing of the acknowledgements: it and its store are what the events between leave alone, each datagram with no acknowledgement
+    -- gets the answer that it gets after these alone, and the same blocks are handed over.
     pub receiver-alone : receiverOf (callsOf w cap e cs .halves) ≡ receiverOf (after w cap e es .halves)
     receiver-alone = ap (λ (x : Endpoint). receiverOf (x .halves)) same ∙ sym (ap (λ (x : Endpoint). receiverOf (x .halves)) apart)
 
-    pub data-alone : (d : List ℕ) → OnlyData d → receiveAnswer w cap (callsOf w cap e cs .halves) d ≡ receiveAnswer w cap (after w cap e es .halves) d
-    data-alone d o =
+    pub others-alone : (d : List ℕ) → NoAck d → receiveAnswer w cap (callsOf w cap e cs .halves) d ≡ receiveAnswer w cap (after w cap e es .halves) d
+    others-alone d o =
         ap (λ (x : Endpoint). receiveAnswer w cap (x .halves) d) same
-        ∙ data-answer w cap (joined (run w cap (e .halves .sender) ds) (runOf w cap (receiverOf (e .halves)) es)) d o
+        ∙ no-ack-answer w cap (joined (run w cap (e .halves .sender) ds) (runOf w cap (receiverOf (e .halves)) es)) d o
         (alone.end-consistent w cap lw uw (e .halves .sender) sender-sound ds)
-        ∙ sym (data-answer w cap (with e (runOf w cap (receiverOf (e .halves)) es) .halves) d o sender-sound)
+        ∙ sym (no-ack-answer w cap (with e (runOf w cap (receiverOf (e .halves)) es) .halves) d o sender-sound)
         ∙ sym (ap (λ (x : Endpoint). receiveAnswer w cap (x .halves) d) apart)
 
     pub handed-alone : handedBy w cap e cs ≡ handed w cap e es
@@ -131,7 +132,7 @@ module _ (w cap : ℕ) (lw : 0 < w) (uw : w ≤ cap) (e : Endpoint) (h : soundOf
     any-order es gs b k =
         ap (λ (x : Endpoint). x .halves .sender) (same cs ds es b) ∙ runs ∙ sym (ap (λ (x : Endpoint). x .halves .sender) (same ks fs gs k))
 
-    -- With the same data and takes between, they leave the same endpoint.
+    -- With the same events between, they leave the same endpoint.
     pub same-end : (es : List Event) → Between cs ds es → Between ks fs es → callsOf w cap e cs ≡ callsOf w cap e ks
     same-end es b k =
         same cs ds es b

@@ -16,21 +16,22 @@ use Rattle.sender.specs.Run.{run}
 use Rattle.sender.specs.StaysConsistent.{acknowledge-keeps}
 use Rattle.endpoint.specs.Receive.{Halves}
 use Rattle.endpoint.specs.Calls.{Endpoint, Call, receives, callOf, callsOf}
-use Rattle.endpoint.specs.History.{OnlyData, OnlyAck, callFor, after, givenBy, handedBy, handed, Between, nothing, tells, brings, taken, written}
-use Rattle.endpoint.specs.Steps.{joined, data-of, ack-of}
+use Rattle.endpoint.specs.History.{NoAck, OnlyAck, callFor, after, givenBy, handedBy, handed, Between, nothing, tells, brings, taken, written}
+use Rattle.endpoint.specs.Steps.{joined, no-ack-of, ack-of}
 
 -- the outset with its receiver's half in some state
 abbrev pub with : Endpoint → receiving.State → Endpoint
 with e r = record { halves = joined (e .halves .sender) r; sent = e .sent }
 
+-- none of the datagrams has an acknowledgement
 abbrev pub Plain : List (List ℕ) → Type 0
-Plain ds = (d : List ℕ) → In d ds → OnlyData d
+Plain ds = (d : List ℕ) → In d ds → NoAck d
 
 -- The endpoint's history is its receiver's; the sender's half stays as it was.
 module _ (w cap : ℕ) (e : Endpoint) (s : senderTests.consistentOf w cap (e .halves .sender) ≡ true) where
-  arrived : (r : receiving.State) (d : List ℕ) → OnlyData d → callOf w cap (with e r) (callFor (arrives d)) ≡ with e (stepOf w cap r (arrives d))
+  arrived : (r : receiving.State) (d : List ℕ) → NoAck d → callOf w cap (with e r) (callFor (arrives d)) ≡ with e (stepOf w cap r (arrives d))
   unfolding callOf
-  arrived r d only = ap (λ (h : Halves). record { halves = h; sent = e .sent }) (data-of w cap (joined (e .halves .sender) r) d only s)
+  arrived r d only = ap (λ (h : Halves). record { halves = h; sent = e .sent }) (no-ack-of w cap (joined (e .halves .sender) r) d only s)
 
   pub after-is : (r : receiving.State) (es : List Event) → Plain (datagramsOf es) → after w cap (with e r) es ≡ with e (runOf w cap r es)
   unfolding callsOf callOf runOf datagramsOf
@@ -49,11 +50,11 @@ module _ (w cap : ℕ) (e : Endpoint) (s : senderTests.consistentOf w cap (e .ha
   handed-is r (takes room ∷ es) only =
       ap (λ (l : List (List ℕ)). givenBy w cap (with e r) (callFor (takes room)) ++ l) (handed-is (stepOf w cap r (takes room)) es only)
 
--- What is received, with data, takes and written acknowledgements between: the sender's half runs by the acknowledgements alone, and the receiver's by the data and takes.
+-- Acknowledgements with other calls between: the sender's half runs by the acknowledgements alone, and the receiver's by what stands between.
 pub between-plain : {cs : List Call} {ds : List (List ℕ)} {es : List Event} → Between cs ds es → Plain (datagramsOf es)
 unfolding datagramsOf
 between-plain (tells d o b) x m = between-plain b x m
-between-plain (brings d o b) x (List·Memᴰ·head q) = subst OnlyData (sym q) o
+between-plain (brings d o b) x (List·Memᴰ·head q) = subst NoAck (sym q) o
 between-plain (brings d o b) x (List·Memᴰ·tail m) = between-plain b x m
 between-plain (taken room b) x m = between-plain b x m
 between-plain (written stamp gap room b) x m = between-plain b x m
