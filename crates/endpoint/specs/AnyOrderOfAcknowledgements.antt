@@ -4,8 +4,8 @@
 -- History.antt).
 use Prim.Native.Nat.{ℕ, _≤_, _<_}
 use mathlib.Core.Bool.{true}
-use mathlib.Core.List.{List}
-use mathlib.Core.Path.{_≡_, sym, _∙_, ap}
+use mathlib.Core.List.{List, [], _∷_, map, List·Memᴰ·head, List·Memᴰ·tail}
+use mathlib.Core.Path.{_≡_, refl, sym, _∙_, ap}
 use lib.ListN.{length}
 use Rattle.window.specs.Members.{In}
 use Rattle.wire.specs.declared.Packet.{Packet}
@@ -21,8 +21,8 @@ use Rattle.sender.specs.Acknowledge.{acknowledging, toldNames, toldBy}
 use Rattle.sender.specs.Run.{run, Named, namedIn, hasReceived}
 use Rattle.sender.specs.AnyOrder as alone
 use Rattle.endpoint.specs.Receive.{Halves, receiverOf, soundOf, receiveAnswer}
-use Rattle.endpoint.specs.Calls.{Endpoint, Call, callsOf}
-use Rattle.endpoint.specs.History.{NoAck, OnlyAck, Between, after, handed, handedBy}
+use Rattle.endpoint.specs.Calls.{Endpoint, Call, receives, callsOf}
+use Rattle.endpoint.specs.History.{OnlyAck, NoAck, Between, nothing, tells, after, handed, handedBy}
 use Rattle.endpoint.specs.Steps.{joined, sound-halves, ack-answer, no-ack-answer}
 use Rattle.endpoint.specs.Follows.{with, both, after-is, handed-is, between-plain, between-acks, between-is, between-hands, run-sound}
 
@@ -34,6 +34,11 @@ pub record NamedBy (w cap : ℕ) (e : Halves) (ds : List (List ℕ)) (n : ℕ) :
   pub reads : readOf datagram ≡ Read packet
   pub accepted : receiveAnswer w cap e datagram ≡ 0
   pub names : toldNames (toldBy (e .sender) datagram packet) n ≡ true
+
+-- Acknowledgements received in turn, with nothing between, are such a history.
+pub in-turn : (ds : List (List ℕ)) → ((d : List ℕ) → In d ds → OnlyAck d) → Between (map receives ds) ds []
+in-turn [] only = nothing
+in-turn (d ∷ ds) only = tells d (only d (List·Memᴰ·head refl)) (in-turn ds (λ x i. only x (List·Memᴰ·tail i)))
 
 module _ (w cap : ℕ) (lw : 0 < w) (uw : w ≤ cap) (e : Endpoint) (h : soundOf w cap (e .halves) ≡ true) where
   sender-sound : senderTests.consistentOf w cap (e .halves .sender) ≡ true

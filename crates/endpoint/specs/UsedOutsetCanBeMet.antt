@@ -245,11 +245,13 @@ turned = refl
 pub used-turned : turnedOf 32 acknowledging (namedIn 32 32 usedSender usedAcks) usedSender ≡ settledSender
 used-turned = ap (λ (chosen : ℕ → Bool). turnedOf 32 acknowledging chosen usedSender) (fun-ext named-are) ∙ turned
 
+used-acks : (d : List ℕ) → In d usedAcks → OnlyAck d
+used-acks d (List·Memᴰ·head e) = subst OnlyAck (sym e) five-ack
+used-acks d (List·Memᴰ·tail (List·Memᴰ·head e)) = subst OnlyAck (sym e) nine-ack
+used-acks d (List·Memᴰ·tail (List·Memᴰ·tail (List·Memᴰ·head e))) = subst OnlyAck (sym e) never-ack
+
 -- THE CONCLUSION. In every history at this outset each acknowledgement gets its answer; and where the acknowledgements are these three, whatever their order and
 -- repeats, and whatever stands between, the sender's half settles.
-one-by-one : Between (receives fiveAck ∷ receives nineVector ∷ receives neverSent ∷ []) usedAcks []
-one-by-one = tells fiveAck five-ack (tells nineVector nine-ack (tells neverSent never-ack nothing))
-
 module _ (cs : List Call) (ds : List (List ℕ)) (es : List Event) (b : Between cs ds es) where
   pub used-answered : (receiveAnswer 32 32 (callsOf 32 32 used cs .halves) fiveAck ≡ 0) × (receiveAnswer 32 32 (callsOf 32 32 used cs .halves) nineVector ≡ 0)
       × (receiveAnswer 32 32 (callsOf 32 32 used cs .halves) neverSent ≡ 8)
@@ -264,8 +266,8 @@ module _ (cs : List Call) (ds : List (List ℕ)) (es : List Event) (b : Between 
   pub sender-settles : ((d : List ℕ) → In d ds → In d usedAcks) → ((d : List ℕ) → In d usedAcks → In d ds)
       → callsOf 32 32 used cs .halves .sender ≡ settledSender
   sender-settles there back =
-      ofAcks.any-order 32 32 (omega arith) (omega arith) used used-halves cs _ ds usedAcks there back es [] b one-by-one
-      ∙ ofAcks.end-is 32 32 (omega arith) (omega arith) used used-halves _ usedAcks [] one-by-one
+      ofAcks.any-order 32 32 (omega arith) (omega arith) used used-halves cs (map receives usedAcks) ds usedAcks there back es [] b (ofAcks.in-turn usedAcks used-acks)
+      ∙ ofAcks.end-is 32 32 (omega arith) (omega arith) used used-halves (map receives usedAcks) usedAcks [] (ofAcks.in-turn usedAcks used-acks)
       ∙ used-turned
 
 -- And where the data are the three of the set, whatever their order and repeats, with takes and acknowledgements between, the three blocks are handed over, each once, in
