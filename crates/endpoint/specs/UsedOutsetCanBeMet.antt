@@ -301,8 +301,9 @@ takes-last (suc k) = taken 1225 (takes-last k)
 
 both-between : Between usedCalls (neverSent ∷ nineVector ∷ fiveAck ∷ nineVector ∷ []) (usedEvents ++ takesOf 32)
 both-between =
-    tells neverSent never-ack (taken 1225 (brings waiving (data-no-ack waiving waiving-data) (written 7 0 1232 (tells nineVector nine-ack (brings again (data-no-ack again again-data) (brings forty (data-no-ack forty forty-data)
-    (taken 1 (tells fiveAck five-ack (written 9 1 8 (brings waiving (data-no-ack waiving waiving-data) (tells nineVector nine-ack (takes-last 32))))))))))))
+    tells neverSent never-ack (taken 1225 (brings waiving (data-no-ack waiving waiving-data) (written 7 0 1232
+    (tells nineVector nine-ack (brings again (data-no-ack again again-data) (brings forty (data-no-ack forty forty-data) (taken 1
+    (tells fiveAck five-ack (written 9 1 8 (brings waiving (data-no-ack waiving waiving-data) (tells nineVector nine-ack (takes-last 32))))))))))))
 
 events-from : From usedSet usedEvents
 unfolding datagramsOf
