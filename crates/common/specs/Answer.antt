@@ -1,14 +1,14 @@
 -- What the answer of a call that writes stands for: document 01's number, and the lent buffer as the call leaves it.
 use Prim.Native.Nat.{ℕ}
-use mathlib.Core.Bool.{cond}
+use mathlib.Core.Bool.{Bool, true, false, cond}
 use mathlib.Core.List.{List, [], _∷_}
-use mathlib.Core.Path.{_≡_, refl, ap}
+use mathlib.Core.Path.{_≡_, refl, sym, ap}
 use lib.ListN.{length}
 use lib.Dec.{eqb, ltb}
 use Rattle.common.specs.declared.Written.{Written}
 use Rattle.common.specs.declared.Written.the-variants.{Refused, Wrote}
 use native.Mathlib.Omega.{arith}
-use borrow.Author.Tests.{ne-eqb}
+use borrow.Author.Tests.{ne-eqb, eqb-true}
 use Rattle.common.specs.Put.{putOf}
 use Rattle.common.specs.Laid.{Laid}
 use Rattle.common.specs.Order.{test, first}
@@ -21,6 +21,15 @@ numberOf (Wrote k) = 0
 -- the answer by its number: the refusal, or how many bytes were written
 unfoldable pub writtenOf : ℕ → List ℕ → Written
 writtenOf n b = cond (eqb n 0) (Wrote (length b)) (Refused n)
+
+-- The answer by its number has that number, accepted or refused.
+pub number-written : (n : ℕ) (b : List ℕ) → numberOf (writtenOf n b) ≡ n
+unfolding writtenOf
+number-written n b = go (eqb n 0) refl
+  where
+    go : (t : Bool) → eqb n 0 ≡ t → numberOf (cond t (Wrote (length b)) (Refused n)) ≡ n
+    go true e = sym (eqb-true n 0 e)
+    go false e = refl
 
 -- "leaves every lent byte unchanged. An accepted write changes only the bytes it reports"
 unfoldable pub leftOf : ℕ → List ℕ → List ℕ → List ℕ

@@ -1,24 +1,30 @@
 -- Demand 3, second half, for the endpoint: "with no send, resend or sweep between, any set of packets carrying an acknowledgement only, in any order, repeats included,
 -- is accepted or refused alike, and a pending packet becomes received exactly if an accepted one names it." The outset e is any endpoint whose two halves are as
--- receiving asks; afterAll is what the datagrams leave, taken in turn.
+-- receiving asks. By the calls cs the acknowledgements ds are received, with the events es between, takes and datagrams with no acknowledgement (Between, in
+-- History.antt).
 use Prim.Native.Nat.{ℕ, _≤_, _<_}
 use mathlib.Core.Bool.{true}
-use mathlib.Core.List.{List}
-use mathlib.Core.Path.{_≡_, sym, _∙_, ap}
+use mathlib.Core.List.{List, [], _∷_, map, List·Memᴰ·head, List·Memᴰ·tail}
+use mathlib.Core.Path.{_≡_, refl, sym, _∙_, ap}
+use lib.ListN.{length}
 use Rattle.window.specs.Members.{In}
 use Rattle.wire.specs.declared.Packet.{Packet}
 use Rattle.wire.specs.declared.Reading.the-variants.{Read}
 use Rattle.wire.specs.Read.{readOf}
+use Rattle.receiver.specs.Consistent as receiverTests
+use Rattle.receiver.specs.History.{Event, runOf}
+use Rattle.sender.specs.declared.Sender.{Sender}
+use Rattle.sender.specs.Consistent as senderTests
 use Rattle.sender.specs.Record.{isPending, numberAt}
 use Rattle.sender.specs.Turn.{turnedOf}
 use Rattle.sender.specs.Acknowledge.{acknowledging, toldNames, toldBy}
 use Rattle.sender.specs.Run.{run, Named, namedIn, hasReceived}
 use Rattle.sender.specs.AnyOrder as alone
 use Rattle.endpoint.specs.Receive.{Halves, receiverOf, soundOf, receiveAnswer}
-use Rattle.endpoint.specs.Calls.{Endpoint}
-use Rattle.endpoint.specs.History.{OnlyAck, afterAll}
-use Rattle.endpoint.specs.Steps.{joined, sound-halves, ack-answer}
-use Rattle.endpoint.specs.Follows.{sending, all-is}
+use Rattle.endpoint.specs.Calls.{Endpoint, Call, receives, callsOf}
+use Rattle.endpoint.specs.History.{OnlyAck, NoAck, Between, nothing, tells, after, handed, handedBy}
+use Rattle.endpoint.specs.Steps.{joined, sound-halves, ack-answer, no-ack-answer}
+use Rattle.endpoint.specs.Follows.{with, both, after-is, handed-is, between-plain, between-acks, between-is, between-hands, run-sound}
 
 -- some datagram of the list reads, is accepted at the outset, and names number n
 pub record NamedBy (w cap : ℕ) (e : Halves) (ds : List (List ℕ)) (n : ℕ) : Type 0 where
@@ -29,73 +35,111 @@ pub record NamedBy (w cap : ℕ) (e : Halves) (ds : List (List ℕ)) (n : ℕ) :
   pub accepted : receiveAnswer w cap e datagram ≡ 0
   pub names : toldNames (toldBy (e .sender) datagram packet) n ≡ true
 
+-- Acknowledgements received in turn, with nothing between, are such a history.
+pub in-turn : (ds : List (List ℕ)) → ((d : List ℕ) → In d ds → OnlyAck d) → Between (map receives ds) ds []
+in-turn [] only = nothing
+in-turn (d ∷ ds) only = tells d (only d (List·Memᴰ·head refl)) (in-turn ds (λ x i. only x (List·Memᴰ·tail i)))
+
 module _ (w cap : ℕ) (lw : 0 < w) (uw : w ≤ cap) (e : Endpoint) (h : soundOf w cap (e .halves) ≡ true) where
-  -- The run as its sender's.
-  same : (ds : List (List ℕ)) → ((d : List ℕ) → In d ds → OnlyAck d) → afterAll w cap e ds ≡ sending e (run w cap (e .halves .sender) ds)
-  same ds only = all-is w cap e (sound-halves w cap (e .halves) h .1) (e .halves .sender) ds only
+  sender-sound : senderTests.consistentOf w cap (e .halves .sender) ≡ true
+  sender-sound = sound-halves w cap (e .halves) h .0
 
-  -- Each datagram gets the same answer wherever it stands: after any such datagrams it is the answer at the outset.
-  pub answered-alike : (ds : List (List ℕ)) → ((d : List ℕ) → In d ds → OnlyAck d) → (d : List ℕ) → OnlyAck d
-      → receiveAnswer w cap (afterAll w cap e ds .halves) d ≡ receiveAnswer w cap (e .halves) d
-  answered-alike ds only d o =
-      let (s, r) = sound-halves w cap (e .halves) h in
-      ap (λ (x : Endpoint). receiveAnswer w cap (x .halves) d) (same ds only)
-      ∙ ack-answer w cap (joined (run w cap (e .halves .sender) ds) (receiverOf (e .halves))) d o r
-      ∙ alone.answered-alike w cap lw uw (e .halves .sender) s ds d
-      ∙ sym (ack-answer w cap (e .halves) d o r)
+  receiver-sound : receiverTests.soundOf w cap (e .halves .receiver) (length (e .halves .store)) ≡ true
+  receiver-sound = sound-halves w cap (e .halves) h .1
 
-  -- The receiver's half and both stores are as at the outset.
-  pub receiver-stays : (ds : List (List ℕ)) → ((d : List ℕ) → In d ds → OnlyAck d)
-      → (receiverOf (afterAll w cap e ds .halves) ≡ receiverOf (e .halves)) × (afterAll w cap e ds .sent ≡ e .sent)
-  receiver-stays ds only = (ap (λ (x : Endpoint). receiverOf (x .halves)) (same ds only), ap (λ (x : Endpoint). x .sent) (same ds only))
+  module _ (cs : List Call) (ds : List (List ℕ)) (es : List Event) (b : Between cs ds es) where
+    -- The history as its halves'.
+    same : callsOf w cap e cs ≡ both (e .sent) (run w cap (e .halves .sender) ds) (runOf w cap (receiverOf (e .halves)) es)
+    same = between-is w cap lw uw (e .sent) b (e .halves .sender) (receiverOf (e .halves)) sender-sound receiver-sound
 
-  -- The sender's half is the outset's with all that an accepted datagram names turned to received.
-  pub end-is : (ds : List (List ℕ)) → ((d : List ℕ) → In d ds → OnlyAck d)
-      → afterAll w cap e ds .halves .sender ≡ turnedOf w acknowledging (namedIn w cap (e .halves .sender) ds) (e .halves .sender)
-  end-is ds only =
-      ap (λ (x : Endpoint). x .halves .sender) (same ds only) ∙ alone.end-is w cap lw uw (e .halves .sender) (sound-halves w cap (e .halves) h .0) ds
+    apart : after w cap e es ≡ with e (runOf w cap (receiverOf (e .halves)) es)
+    apart = after-is w cap e sender-sound (receiverOf (e .halves)) es (between-plain b)
 
-  -- Whatever the order and the repeats: lists with the same members leave the same endpoint.
-  pub any-order : (ds es : List (List ℕ)) → ((d : List ℕ) → In d ds → OnlyAck d) → ((d : List ℕ) → In d ds → In d es) → ((d : List ℕ) → In d es → In d ds)
-      → afterAll w cap e ds ≡ afterAll w cap e es
-  any-order ds es only there back =
-      same ds only
-      ∙ ap (sending e) (alone.any-order w cap lw uw (e .halves .sender) (sound-halves w cap (e .halves) h .0) ds es there back)
-      ∙ sym (same es (λ d i. only d (back d i)))
+    -- "accepted or refused alike": at every moment each acknowledgement gets the answer that it gets at the outset.
+    pub answered-alike : (d : List ℕ) → OnlyAck d → receiveAnswer w cap (callsOf w cap e cs .halves) d ≡ receiveAnswer w cap (e .halves) d
+    answered-alike d o =
+        ap (λ (x : Endpoint). receiveAnswer w cap (x .halves) d) same
+        ∙ ack-answer w cap (joined (run w cap (e .halves .sender) ds) (runOf w cap (receiverOf (e .halves)) es)) d o
+        (run-sound w cap lw uw (receiverOf (e .halves)) es receiver-sound)
+        ∙ alone.answered-alike w cap lw uw (e .halves .sender) sender-sound ds d
+        ∙ sym (ack-answer w cap (e .halves) d o receiver-sound)
 
-  -- A number that is pending at the outset is received at the end exactly if some accepted datagram names it.
-  module _ (ds : List (List ℕ)) (only : (d : List ℕ) → In d ds → OnlyAck d) (n : ℕ) (l : e .halves .sender .low .0 ≤ n) (u : n < e .halves .sender .next .0)
-      (p : isPending (numberAt w (e .halves .sender) n) ≡ true) where
-    to-sender : NamedBy w cap (e .halves) ds n → Named w cap (e .halves .sender) ds n
-    to-sender k =
-        record {
-          datagram = k .datagram;
-          listed = k .listed;
-          says = record {
-            packet = k .packet;
-            reads = k .reads;
-            accepted = sym (ack-answer w cap (e .halves) (k .datagram) (only (k .datagram) (k .listed)) (sound-halves w cap (e .halves) h .1)) ∙ k .accepted;
-            names = k .names;
-          };
-        }
+    -- The receiver's half sees nothing of the acknowledgements: it and its store are what the events between leave alone, each datagram with no acknowledgement
+    -- gets the answer that it gets after these alone, and the same blocks are handed over.
+    pub receiver-alone : receiverOf (callsOf w cap e cs .halves) ≡ receiverOf (after w cap e es .halves)
+    receiver-alone = ap (λ (x : Endpoint). receiverOf (x .halves)) same ∙ sym (ap (λ (x : Endpoint). receiverOf (x .halves)) apart)
 
-    from-sender : Named w cap (e .halves .sender) ds n → NamedBy w cap (e .halves) ds n
-    from-sender k =
-        record {
-          datagram = k .datagram;
-          listed = k .listed;
-          packet = k .says .packet;
-          reads = k .says .reads;
-          accepted = ack-answer w cap (e .halves) (k .datagram) (only (k .datagram) (k .listed)) (sound-halves w cap (e .halves) h .1) ∙ k .says .accepted;
-          names = k .says .names;
-        }
+    pub others-alone : (d : List ℕ) → NoAck d → receiveAnswer w cap (callsOf w cap e cs .halves) d ≡ receiveAnswer w cap (after w cap e es .halves) d
+    others-alone d o =
+        ap (λ (x : Endpoint). receiveAnswer w cap (x .halves) d) same
+        ∙ no-ack-answer w cap (joined (run w cap (e .halves .sender) ds) (runOf w cap (receiverOf (e .halves)) es)) d o
+        (alone.end-consistent w cap lw uw (e .halves .sender) sender-sound ds)
+        ∙ sym (no-ack-answer w cap (with e (runOf w cap (receiverOf (e .halves)) es) .halves) d o sender-sound)
+        ∙ sym (ap (λ (x : Endpoint). receiveAnswer w cap (x .halves) d) apart)
 
-    pub received-if : NamedBy w cap (e .halves) ds n → hasReceived w (afterAll w cap e ds .halves .sender) n ≡ true
-    received-if k =
-        ap (λ (x : Endpoint). hasReceived w (x .halves .sender) n) (same ds only)
-        ∙ alone.received-if w cap lw uw (e .halves .sender) (sound-halves w cap (e .halves) h .0) ds n l u p (to-sender k)
+    pub handed-alone : handedBy w cap e cs ≡ handed w cap e es
+    handed-alone =
+        between-hands w cap lw uw (e .sent) b (e .halves .sender) (receiverOf (e .halves)) sender-sound receiver-sound
+        ∙ sym (handed-is w cap e sender-sound (receiverOf (e .halves)) es (between-plain b))
 
-    pub received-only-if : hasReceived w (afterAll w cap e ds .halves .sender) n ≡ true → NamedBy w cap (e .halves) ds n
-    received-only-if t =
-        from-sender (alone.received-only-if w cap lw uw (e .halves .sender) (sound-halves w cap (e .halves) h .0) ds n l u p
-        (sym (ap (λ (x : Endpoint). hasReceived w (x .halves .sender) n) (same ds only)) ∙ t))
+    -- The sender's store is as at the outset, and its half is the outset's with all that an accepted datagram names turned to received.
+    pub sent-stays : callsOf w cap e cs .sent ≡ e .sent
+    sent-stays = ap (λ (x : Endpoint). x .sent) same
+
+    pub end-is : callsOf w cap e cs .halves .sender ≡ turnedOf w acknowledging (namedIn w cap (e .halves .sender) ds) (e .halves .sender)
+    end-is = ap (λ (x : Endpoint). x .halves .sender) same ∙ alone.end-is w cap lw uw (e .halves .sender) sender-sound ds
+
+    only : (d : List ℕ) → In d ds → OnlyAck d
+    only = between-acks b
+
+    -- A number that is pending at the outset is received at the end exactly if some accepted datagram names it.
+    module _ (n : ℕ) (l : e .halves .sender .low .0 ≤ n) (u : n < e .halves .sender .next .0) (p : isPending (numberAt w (e .halves .sender) n) ≡ true) where
+      to-sender : NamedBy w cap (e .halves) ds n → Named w cap (e .halves .sender) ds n
+      to-sender k =
+          record {
+            datagram = k .datagram;
+            listed = k .listed;
+            says = record {
+              packet = k .packet;
+              reads = k .reads;
+              accepted = sym (ack-answer w cap (e .halves) (k .datagram) (only (k .datagram) (k .listed)) receiver-sound) ∙ k .accepted;
+              names = k .names;
+            };
+          }
+
+      from-sender : Named w cap (e .halves .sender) ds n → NamedBy w cap (e .halves) ds n
+      from-sender k =
+          record {
+            datagram = k .datagram;
+            listed = k .listed;
+            packet = k .says .packet;
+            reads = k .says .reads;
+            accepted = ack-answer w cap (e .halves) (k .datagram) (only (k .datagram) (k .listed)) receiver-sound ∙ k .says .accepted;
+            names = k .says .names;
+          }
+
+      pub received-if : NamedBy w cap (e .halves) ds n → hasReceived w (callsOf w cap e cs .halves .sender) n ≡ true
+      received-if k =
+          ap (λ (x : Endpoint). hasReceived w (x .halves .sender) n) same
+          ∙ alone.received-if w cap lw uw (e .halves .sender) sender-sound ds n l u p (to-sender k)
+
+      pub received-only-if : hasReceived w (callsOf w cap e cs .halves .sender) n ≡ true → NamedBy w cap (e .halves) ds n
+      received-only-if t =
+          from-sender (alone.received-only-if w cap lw uw (e .halves .sender) sender-sound ds n l u p
+          (sym (ap (λ (x : Endpoint). hasReceived w (x .halves .sender) n) same) ∙ t))
+
+  -- "in any order, repeats included": two histories whose acknowledgements have the same members leave the same sender's half, whatever stands between.
+  module _ (cs ks : List Call) (ds fs : List (List ℕ)) (there : (d : List ℕ) → In d ds → In d fs) (back : (d : List ℕ) → In d fs → In d ds) where
+    runs : run w cap (e .halves .sender) ds ≡ run w cap (e .halves .sender) fs
+    runs = alone.any-order w cap lw uw (e .halves .sender) sender-sound ds fs there back
+
+    pub any-order : (es gs : List Event) → Between cs ds es → Between ks fs gs → callsOf w cap e cs .halves .sender ≡ callsOf w cap e ks .halves .sender
+    any-order es gs b k =
+        ap (λ (x : Endpoint). x .halves .sender) (same cs ds es b) ∙ runs ∙ sym (ap (λ (x : Endpoint). x .halves .sender) (same ks fs gs k))
+
+    -- With the same events between, they leave the same endpoint.
+    pub same-end : (es : List Event) → Between cs ds es → Between ks fs es → callsOf w cap e cs ≡ callsOf w cap e ks
+    same-end es b k =
+        same cs ds es b
+        ∙ ap (λ (s : Sender). both (e .sent) s (runOf w cap (receiverOf (e .halves)) es)) runs
+        ∙ sym (same ks fs es k)

@@ -8,7 +8,7 @@ use mathlib.Core.Path.{_≡_, sym, _∙_, ap, subst}
 use Rattle.window.specs.Members.{In}
 use Rattle.receiver.specs.Take.{takeAnswer}
 use Rattle.receiver.specs.Determined.{determinedOf}
-use Rattle.receiver.specs.History.{Event, runOf, takesOf}
+use Rattle.receiver.specs.History.{Event, runOf, datagramsOf, takesOf}
 use Rattle.receiver.specs.Set.{Set, From, Covers}
 use Rattle.receiver.specs.AnyOrder.{itemsOf, readyOf}
 use Rattle.receiver.specs.AnyOrder as alone
@@ -17,20 +17,23 @@ use Rattle.sender.specs.Consistent as senderTests
 use Rattle.endpoint.specs.Receive.{receiverOf, receiveAnswer}
 use Rattle.endpoint.specs.Calls.{Endpoint}
 use Rattle.endpoint.specs.History.{OnlyData, after, handed}
-use Rattle.endpoint.specs.Steps.{joined, data-answer}
-use Rattle.endpoint.specs.Follows.{with, after-is, handed-is}
+use Rattle.endpoint.specs.Steps.{joined, data-no-ack, no-ack-answer}
+use Rattle.endpoint.specs.Follows.{with, Plain, after-is, handed-is}
 
 module _ (w cap : ℕ) (e : Endpoint) (ds : List (List ℕ)) (set : Set w cap (receiverOf (e .halves)) ds)
     (s : senderTests.consistentOf w cap (e .halves .sender) ≡ true) (only : (d : List ℕ) → In d ds → OnlyData d) where
+  plain : (es : List Event) → From ds es → Plain (datagramsOf es)
+  plain es from d i = data-no-ack d (only d (from d i))
+
   -- The history as its receiver's.
   same : (es : List Event) → From ds es → after w cap e es ≡ with e (runOf w cap (receiverOf (e .halves)) es)
-  same es from = after-is w cap e s (receiverOf (e .halves)) es (λ d i. only d (from d i))
+  same es from = after-is w cap e s (receiverOf (e .halves)) es (plain es from)
 
   -- Every datagram of the set is accepted at every moment of every history of the set.
   pub all-accepted : (es : List Event) → From ds es → (d : List ℕ) → In d ds → receiveAnswer w cap (after w cap e es .halves) d ≡ 0
   all-accepted es from d i =
       ap (λ (x : Endpoint). receiveAnswer w cap (x .halves) d) (same es from)
-      ∙ data-answer w cap (joined (e .halves .sender) (runOf w cap (receiverOf (e .halves)) es)) d (only d i) s
+      ∙ no-ack-answer w cap (joined (e .halves .sender) (runOf w cap (receiverOf (e .halves)) es)) d (data-no-ack d (only d i)) s
       ∙ alone.all-accepted w cap (receiverOf (e .halves)) ds set es from d i
 
   -- At every moment the sender's half and its store are as at the outset.
@@ -46,7 +49,7 @@ module _ (w cap : ℕ) (e : Endpoint) (ds : List (List ℕ)) (set : Set w cap (r
   any-order es from covers room ready =
       let (h, r) = alone.any-order w cap (receiverOf (e .halves)) ds set es from covers room
       (sym (ap (λ (x : Endpoint). takeAnswer w cap (receiverOf (x .halves)) room) (same es from)) ∙ ready) in
-      (handed-is w cap e s (receiverOf (e .halves)) es (λ d i. only d (from d i)) ∙ h, ap (λ (x : Endpoint). x .halves .receiver) (same es from) ∙ r)
+      (handed-is w cap e s (receiverOf (e .halves)) es (plain es from) ∙ h, ap (λ (x : Endpoint). x .halves .receiver) (same es from) ∙ r)
 
   -- The same with nothing asked of the end: w takes with room for any block leave nothing ready.
   pub any-order-taken : (es : List Event) → From ds es → Covers ds es

@@ -30,10 +30,10 @@ use Rattle.sender.specs.Run.{hasReceived}
 use Rattle.sender.specs.Outset.{fresh-consistent, oneOut, one-consistent, oneAck, one-acknowledged}
 use Rattle.endpoint.specs.Open.{openAnswer}
 use Rattle.endpoint.specs.Receive.{soundOf, receiveAnswer}
-use Rattle.endpoint.specs.Calls.{Endpoint}
+use Rattle.endpoint.specs.Calls.{Endpoint, receives, callsOf}
 use Rattle.endpoint.specs.Sound.{Sound}
 use Rattle.endpoint.specs.Fresh.{freshOf}
-use Rattle.endpoint.specs.History.{OnlyData, OnlyAck, after, afterAll, handed}
+use Rattle.endpoint.specs.History.{OnlyData, OnlyAck, after, handed, nothing, tells}
 use Rattle.endpoint.specs.Steps.{joined, halves-sound, ack-answer}
 use Rattle.endpoint.specs.StaysSound.{fresh-sound}
 use Rattle.endpoint.specs.AnyOrderOfData.{all-accepted, any-order-taken}
@@ -53,10 +53,10 @@ read-once : (p q : Packet) → Read p ≡ Read q → p ≡ q
 read-once p q e = cc
 
 -- the flags of a datagram that reads as found
-flags-of : (d : List ℕ) (n : ℕ) → readOf d ≡ Read (found d) → found d .values .flags ≡ n → (p : Packet) → readOf d ≡ Read p → p .values .flags ≡ n
+pub flags-of : (d : List ℕ) (n : ℕ) → readOf d ≡ Read (found d) → found d .values .flags ≡ n → (p : Packet) → readOf d ≡ Read p → p .values .flags ≡ n
 flags-of d n r f p q = ap (λ (x : Packet). x .values .flags) (read-once p (found d) (sym q ∙ r)) ∙ f
 
-abbrev Reads : List ℕ → ℕ → Type 0
+abbrev pub Reads : List ℕ → ℕ → Type 0
 Reads d n = (readOf d ≡ Read (found d)) × (found d .values .flags ≡ n)
 
 all-read : Reads five 4 × Reads waiving 20 × Reads late 20 × Reads oneAck 1
@@ -109,8 +109,8 @@ sentOne = record { halves = joined oneOut fresh; sent = outset .sent }
 pub one-sound : soundOf 32 32 (sentOne .halves) ≡ true
 one-sound = halves-sound 32 32 (sentOne .halves) (one-consistent .0) (outset-sound .receiver)
 
-pub one-carries-ack : (d : List ℕ) → In d (oneAck ∷ []) → OnlyAck d
-one-carries-ack d (List·Memᴰ·head e) = subst OnlyAck (sym e) (λ p q. inl (flags-of oneAck 1 (all-read .3 .0) (all-read .3 .1) p q))
+pub one-carries-ack : OnlyAck oneAck
+one-carries-ack p q = inl (flags-of oneAck 1 (all-read .3 .0) (all-read .3 .1) p q)
 
 one-names : toldNames (toldBy oneOut oneAck (found oneAck)) 0 ≡ true
 unfolding every readOf readPacket first swapped droppedBy endOf outside sixOf ackEnd overheadEnd delayEnd aoaEnd numberEnd vectorEnd channelEnd
@@ -124,11 +124,12 @@ one-named =
       listed = List·Memᴰ·head refl;
       packet = found oneAck;
       reads = all-read .3 .0;
-      accepted = ack-answer 32 32 (sentOne .halves) oneAck (one-carries-ack oneAck (List·Memᴰ·head refl)) (outset-sound .receiver) ∙ one-acknowledged .0;
+      accepted = ack-answer 32 32 (sentOne .halves) oneAck one-carries-ack (outset-sound .receiver) ∙ one-acknowledged .0;
       names = one-names;
     }
 
 -- So the number, pending at the outset, is received at the end.
-pub one-received : hasReceived 32 (afterAll 32 32 sentOne (oneAck ∷ []) .halves .sender) 0 ≡ true
+pub one-received : hasReceived 32 (callsOf 32 32 sentOne (receives oneAck ∷ []) .halves .sender) 0 ≡ true
 one-received =
-    received-if 32 32 (omega arith) (omega arith) sentOne one-sound (oneAck ∷ []) one-carries-ack 0 (omega arith) (omega arith) (one-consistent .1) one-named
+    received-if 32 32 (omega arith) (omega arith) sentOne one-sound (receives oneAck ∷ []) (oneAck ∷ []) [] (tells oneAck one-carries-ack nothing) 0
+    (omega arith) (omega arith) (one-consistent .1) one-named

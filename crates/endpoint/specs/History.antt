@@ -1,10 +1,13 @@
--- Histories of an endpoint, of which demand 3 speaks: datagrams that arrive and takes, as calls; the blocks that calls hand over; and what such datagrams carry.
+-- Histories of an endpoint, of which demand 3 speaks: datagrams that arrive and takes, as calls; the blocks that calls hand over; what such datagrams carry; and
+-- the calls that may stand between acknowledgements.
 use Prim.Native.Nat.{ℕ, _+_}
+use mathlib.Core.Bool.{false}
 use mathlib.Core.List.{List, [], _∷_, _++_, map}
 use mathlib.Core.Logic.{_⊎_}
 use mathlib.Core.Path.{_≡_}
 use Rattle.wire.specs.declared.Packet.{Packet}
 use Rattle.wire.specs.declared.Reading.the-variants.{Read}
+use Rattle.wire.specs.Flags.{ackIn, vectorIn}
 use Rattle.wire.specs.Read.{readOf}
 use Rattle.receiver.specs.History.{Event, arrives, takes, givenOf}
 use Rattle.endpoint.specs.Receive.{receiverOf}
@@ -18,10 +21,6 @@ callFor (takes room) = calls.takes room
 -- what a history leaves: "each call is given the records and stores as the call before left them"
 abbrev pub after : ℕ → ℕ → Endpoint → List Event → Endpoint
 after w cap e es = callsOf w cap e (map callFor es)
-
--- what datagrams leave, with no other call between
-abbrev pub afterAll : ℕ → ℕ → Endpoint → List (List ℕ) → Endpoint
-afterAll w cap e ds = callsOf w cap e (map receives ds)
 
 -- the block that a call hands over: an accepted take does, and nothing else
 abbrev pub givenBy : ℕ → ℕ → Endpoint → Call → List (List ℕ)
@@ -46,3 +45,17 @@ OnlyData d = (p : Packet) → readOf d ≡ Read p → (p .values .flags ≡ 0x00
 -- "packets carrying an acknowledgement only": read, it has the flag ACK alone, or ACKVEC alone; one that does not read may stand among them
 abbrev pub OnlyAck : List ℕ → Type 0
 OnlyAck d = (p : Packet) → readOf d ≡ Read p → (p .values .flags ≡ 0x001) ⊎ (p .values .flags ≡ 0x008)
+
+-- a datagram with no acknowledgement: read, it has neither the flag ACK nor the flag ACKVEC
+abbrev pub NoAck : List ℕ → Type 0
+NoAck d = (p : Packet) → readOf d ≡ Read p → (ackIn (p .values .flags) ≡ false) × (vectorIn (p .values .flags) ≡ false)
+
+-- "with no send, resend or sweep between": calls cs by which the acknowledgements ds are received, in this order, and the events es happen, datagrams with no
+-- acknowledgement and takes, these too in this order; acknowledgements may be written at any moment
+pub data Between : List Call → List (List ℕ) → List Event → Type 0 where
+  nothing : Between [] [] []
+  tells : {cs : List Call} {ds : List (List ℕ)} {es : List Event} (d : List ℕ) → OnlyAck d → Between cs ds es → Between (receives d ∷ cs) (d ∷ ds) es
+  brings : {cs : List Call} {ds : List (List ℕ)} {es : List Event} (d : List ℕ) → NoAck d → Between cs ds es → Between (receives d ∷ cs) ds (arrives d ∷ es)
+  taken : {cs : List Call} {ds : List (List ℕ)} {es : List Event} (room : ℕ) → Between cs ds es → Between (calls.takes room ∷ cs) ds (takes room ∷ es)
+  written : {cs : List Call} {ds : List (List ℕ)} {es : List Event} (stamp gap room : ℕ) → Between cs ds es
+      → Between (acknowledges stamp gap room ∷ cs) ds es

@@ -15,6 +15,7 @@ use Rattle.wire.specs.declared.Values.{Values}
 use Rattle.wire.specs.declared.Packet.{Packet}
 use Rattle.wire.specs.declared.Reading.{Reading}
 use Rattle.wire.specs.declared.Reading.the-variants.{Refused, Dummy, Read}
+use Rattle.wire.specs.Flags.{ackIn, vectorIn}
 use Rattle.wire.specs.Read.{readOf}
 use Rattle.wire.specs.Same.{bodyIn}
 use Rattle.receiver.specs.declared.Receiver.{Receiver}
@@ -28,7 +29,7 @@ use Rattle.sender.specs.declared.Sender.{Sender}
 use Rattle.sender.specs.Consistent as senderTests
 use Rattle.sender.specs.Acknowledge.{Told, silent, upTo, listed, toldAnswer, toldOf, toldBy}
 use Rattle.sender.specs.Acknowledge as sender
-use Rattle.endpoint.specs.History.{OnlyData, OnlyAck}
+use Rattle.endpoint.specs.History.{OnlyData, OnlyAck, NoAck}
 use Rattle.endpoint.specs.Receive.{Halves, receiverOf, soundOf, packetAnswer, packetTold, packetOf, readAnswer, readInto, receiveAnswer, receiveOf}
 
 -- a sender's half and a receiver's
@@ -125,18 +126,25 @@ module _ (w : ℕ) (e : Halves) (d : List ℕ) (p : Packet) (t : arrivalFrom (e 
       ∙ cond-sender (eqb (toldAnswer (e .sender) (toldBy (e .sender) d p)) 0) (toldOf w (e .sender) (toldBy (e .sender) d p)) (e .sender) (receiverOf e)
       ∙ ap (λ (s : Sender). joined s (receiverOf e)) (told-left w (e .sender) (toldBy (e .sender) d p))
 
-tells-nothing : (s : Sender) (d : List ℕ) (p : Packet) → (p .values .flags ≡ 4) ⊎ (p .values .flags ≡ 20) → toldBy s d p ≡ silent
+-- Data alone has no acknowledgement, and a packet with none tells the sender nothing.
+pub data-no-ack : (d : List ℕ) → OnlyData d → NoAck d
+data-no-ack d only p q = go (p .values .flags) (only p q)
+  where
+    go : (flags : ℕ) → (flags ≡ 4) ⊎ (flags ≡ 20) → (ackIn flags ≡ false) × (vectorIn flags ≡ false)
+    go flags (inl f) = (ap ackIn f, ap vectorIn f)
+    go flags (inr f) = (ap ackIn f, ap vectorIn f)
+
+tells-nothing : (s : Sender) (d : List ℕ) (p : Packet) → (ackIn (p .values .flags) ≡ false) × (vectorIn (p .values .flags) ≡ false) → toldBy s d p ≡ silent
 unfolding toldBy
-tells-nothing s d p (inl f) = rw f refl
-tells-nothing s d p (inr f) = rw f refl
+tells-nothing s d p f = rw (f .0, f .1) refl
 
 brings-nothing : (r : Receiver) (v : Values) (block : List ℕ) → (v .flags ≡ 1) ⊎ (v .flags ≡ 8) → arrivalFrom r v block ≡ some nothing
 unfolding arrivalFrom waiverFrom
 brings-nothing r v block (inl f) = rw f refl
 brings-nothing r v block (inr f) = rw f refl
 
--- Data alone: the endpoint answers as its receiver's half does, and only that half changes.
-module _ (w cap : ℕ) (e : Halves) (d : List ℕ) (only : OnlyData d) (s : senderTests.consistentOf w cap (e .sender) ≡ true) where
+-- No acknowledgement: the endpoint answers as its receiver's half does, and only that half changes.
+module _ (w cap : ℕ) (e : Halves) (d : List ℕ) (only : NoAck d) (s : senderTests.consistentOf w cap (e .sender) ≡ true) where
   read-quiet : (r : Reading) → readOf d ≡ r
       → (readAnswer w e d r ≡ receiver.readAnswer w (e .receiver) d r) × (readInto w e d r ≡ joined (e .sender) (receiver.readInto w (receiverOf e) d r))
   unfolding readAnswer readInto receiver.readAnswer receiver.readInto
@@ -149,13 +157,13 @@ module _ (w cap : ℕ) (e : Halves) (d : List ℕ) (only : OnlyData d) (s : send
   unfolding soundOf every
   sound-is = rw s (same (receiverTests.soundOf w cap (e .receiver) (length (e .store))))
 
-  pub data-answer : receiveAnswer w cap e d ≡ receiver.receiveAnswer w cap (receiverOf e) d
+  pub no-ack-answer : receiveAnswer w cap e d ≡ receiver.receiveAnswer w cap (receiverOf e) d
   unfolding receiveAnswer receiver.receiveAnswer
-  data-answer = rw sound-is (ap (λ (n : ℕ). cond (receiverTests.soundOf w cap (e .receiver) (length (e .store))) n 13) (read-quiet (readOf d) refl .0))
+  no-ack-answer = rw sound-is (ap (λ (n : ℕ). cond (receiverTests.soundOf w cap (e .receiver) (length (e .store))) n 13) (read-quiet (readOf d) refl .0))
 
-  pub data-of : receiveOf w cap e d ≡ joined (e .sender) (receiver.receiveOf w cap (receiverOf e) d)
+  pub no-ack-of : receiveOf w cap e d ≡ joined (e .sender) (receiver.receiveOf w cap (receiverOf e) d)
   unfolding receiveOf receiver.receiveOf
-  data-of =
+  no-ack-of =
       rw sound-is
       (ap (λ (x : Halves). cond (receiverTests.soundOf w cap (e .receiver) (length (e .store))) x e) (read-quiet (readOf d) refl .1)
       ∙ cond-receiver (receiverTests.soundOf w cap (e .receiver) (length (e .store))) (e .sender) _ (receiverOf e))

@@ -30,7 +30,8 @@ use Rattle.wire.specs.Same.{bodyIn}
 use Rattle.wire.specs.Write.{packetBytes, datagramOf}
 use Rattle.receiver.specs.declared.Receiver.{Receiver}
 use Rattle.receiver.specs.Packet.{Packet}
-use Rattle.receiver.specs.CanBeMet.{fresh, none-held, small, are-bytes, three-are-a-set}
+use Rattle.receiver.specs.CanBeMet.{fresh, none-held, three-are-a-set}
+use Rattle.receiver.specs.Shown.{small, are-bytes}
 use Rattle.receiver.specs.AnyOrder.{packetsOf, itemsOf, readyOf}
 use Rattle.receiver.specs.Receive.{onSome, dataNumber, channelNumber, ifFlagged, packetFrom}
 use Rattle.receiver.specs.Determined.{itemOf, inside, markedIn, heldIn, seenBy, hasBy, floorBy, baseBy, endBy, dueBy, determinedOf, blockIn, bodyBy, blocksFrom}

@@ -10,7 +10,7 @@ use borrow.Author.Tests.{lt-ltb, le-ltb, le-leb, lt-leb, eq-eqb, ne-eqb, leb-tru
 use Rattle.common.specs.Every.{every, allBelow, implies}
 use Rattle.common.specs.Facts.{ltb-not, leb-not, clash, not-so}
 use Rattle.numbers.specs.Full.{highest, pastHighest}
-use Rattle.window.specs.Store.{placeSize, storeSize}
+use Rattle.window.specs.Store.{placeSize}
 use Rattle.window.specs.Places.{pastOf}
 use Rattle.window.specs.EachPlace.{countOf, all-placed, past-below}
 use Rattle.receiver.specs.declared.Hold.{Hold}

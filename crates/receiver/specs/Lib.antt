@@ -20,4 +20,5 @@ pub mod AcknowledgeLaws
 pub mod Facts
 pub mod Blocks
 pub mod Keeping
+pub mod Shown
 pub mod Order

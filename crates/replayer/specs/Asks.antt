@@ -8,14 +8,11 @@ use Rattle.text.specs.Decimal.{decimalOf}
 use Rattle.text.specs.Lines.{line, comma}
 use Rattle.trace.specs.Kinds.{kindIn, kindSend, kindResend, kindTake, kindSweep}
 use Rattle.trace.specs.Read.{Event}
-use Rattle.receiver.specs.Take.{takeAnswer}
-use Rattle.receiver.specs.Acknowledge.{acknowledgeAnswer}
-use Rattle.sender.specs.Send.{newAnswer, resendAnswer}
-use Rattle.sender.specs.Sweep.{sweepAnswer, sweepCount}
+use Rattle.sender.specs.Sweep.{sweepCount}
 use Rattle.receiver.specs.declared.Receiver.{Receiver}
 use Rattle.sender.specs.declared.Sender.{Sender}
-use Rattle.endpoint.specs.Receive.{halves, receiverOf, receiveAnswer}
-use Rattle.endpoint.specs.Calls.{Endpoint, Call, receives, takes, acknowledges, sends, resends, sweeps, sendingOf, callOf}
+use Rattle.endpoint.specs.Receive.{halves}
+use Rattle.endpoint.specs.Calls.{Endpoint, Call, receives, takes, acknowledges, sends, resends, sweeps, answerOf, callOf}
 
 -- both halves with the two stores
 abbrev pub endpointWith : Sender → Receiver → List ℕ → List ℕ → Endpoint
@@ -36,15 +33,7 @@ unfoldable pub callsFor : List Event → List Call
 callsFor [] = []
 callsFor (x ∷ xs) = callFor x ∷ callsFor xs
 
--- document 01's number for a call, and how many a sweep finds lost
-unfoldable pub answerTo : Endpoint → Call → ℕ
-answerTo e (receives d) = receiveAnswer 32 32 (e .halves) d
-answerTo e (takes room) = takeAnswer 32 32 (receiverOf (e .halves)) room
-answerTo e (acknowledges stamp gap room) = acknowledgeAnswer 32 32 (e .halves .receiver) stamp gap room
-answerTo e (sends tick block room) = newAnswer 32 32 (sendingOf e) block room
-answerTo e (resends tick room) = resendAnswer 32 32 (sendingOf e) room
-answerTo e (sweeps tick) = sweepAnswer 32 32 (e .halves .sender)
-
+-- how many a sweep finds lost; other calls find none
 unfoldable pub lostTo : Endpoint → Call → ℕ
 lostTo e (receives d) = 0
 lostTo e (takes room) = 0
@@ -67,7 +56,7 @@ answerLine sweep n k =
     line "answer" (cond sweep (cond (eqb n 0) (comma (decimalOf 0) (decimalOf k)) (decimalOf n)) (decimalOf n))
 
 unfoldable pub answerFor : Endpoint → Call → List ℕ
-answerFor e c = answerLine (isSweep c) (answerTo e c) (lostTo e c)
+answerFor e c = answerLine (isSweep c) (answerOf 32 32 e c) (lostTo e c)
 
 -- the lines of calls one after the other
 unfoldable pub answersFor : Endpoint → List Call → List ℕ

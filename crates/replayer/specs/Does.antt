@@ -8,15 +8,15 @@ use lib.Dec.{eqb}
 use Rattle.text.specs.Within.{LaidWithin}
 use Rattle.trace.specs.Read.{kindDue, dataDue, freshCursor}
 use Rattle.endpoint.specs.Open.{freshPair}
-use Rattle.endpoint.specs.Calls.{Endpoint, Call, callOf}
+use Rattle.endpoint.specs.Calls.{Endpoint, Call, answerOf, callOf}
 use Rattle.replayer.specs.declared.State.{State}
 use Rattle.replayer.specs.declared.calling.Called.{Called}
-use Rattle.replayer.specs.Asks.{endpointWith, answerTo, lostTo}
+use Rattle.replayer.specs.Asks.{endpointWith, lostTo}
 use Rattle.replayer.specs.Steps.{Machine, machine, stepOf, stepText}
 
 -- a call was made: its answer, how many it found lost, and the endpoint that it left, with the stores as they stand
 pub record Does (e : Endpoint) (c : Call) (x : Called) (store sent : List ℕ) : Type 0 where
-  pub answer : x .answer ≡ answerTo e c
+  pub answer : x .answer ≡ answerOf 32 32 e c
   pub lost : x .lost ≡ lostTo e c
   pub left : endpointWith (x .sender) (x .receiver) store sent ≡ callOf 32 32 e c
 
