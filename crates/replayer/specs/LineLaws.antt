@@ -10,10 +10,10 @@ use Rattle.common.specs.Order.{test, first}
 use Rattle.common.specs.Facts.{clash}
 use Rattle.text.specs.Ascii.{ascii}
 use Rattle.trace.specs.declared.Cursor.{Cursor}
-use Rattle.trace.specs.declared.reading.Value.{Value}
-use Rattle.trace.specs.declared.reading.Value.the-variants.{Bad, Given}
-use Rattle.trace.specs.declared.reading.Pair.{Pair}
-use Rattle.trace.specs.declared.reading.Pair.the-variants as pair
+use Rattle.trace.specs.declared.Value.{Value}
+use Rattle.trace.specs.declared.Value.the-variants.{Bad, Given}
+use Rattle.trace.specs.declared.Pair.{Pair}
+use Rattle.trace.specs.declared.Pair.the-variants as pair
 use Rattle.trace.specs.Words.{same}
 use Rattle.trace.specs.Numbers.{numberUnder, firstOf, onNumber, onPair}
 use Rattle.trace.specs.Kinds.{kindOf}

@@ -12,7 +12,7 @@ use lib.Dec.{eqb}
 use Rattle.common.specs.Facts.{lt-or-ge, bool, clash, not-so}
 use Rattle.common.specs.Order.{first-skip, first-none}
 use Rattle.text.specs.Ascii.{ascii}
-use Rattle.trace.specs.declared.reading.Value.the-variants.{Bad, Given}
+use Rattle.trace.specs.declared.Value.the-variants.{Bad, Given}
 use Rattle.trace.specs.Words.{same, startsWith}
 use Rattle.trace.specs.Numbers.{numberUnder}
 use Rattle.trace.specs.Kinds.{kindOf}
