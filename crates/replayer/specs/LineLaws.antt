@@ -17,11 +17,12 @@ use Rattle.trace.specs.declared.Pair.the-variants as pair
 use Rattle.trace.specs.Words.{same}
 use Rattle.trace.specs.Numbers.{numberUnder, firstOf, onNumber, onPair}
 use Rattle.trace.specs.Kinds.{kindOf}
-use Rattle.trace.specs.Read.{dueOf, firstRead, timeoutRead, tickRead, kindRead, atFormat, atEdition, atFirst, atTimeout, atTick, atKind, nextOf, dataGood, dataBytes, Event, event, Events, events, andThen, Head, noHead, head, headOf, eventsOf}
+use Rattle.trace.specs.Read.{dueOf, firstRead, timeoutRead, tickRead, kindRead, atFormat, atEdition, atFirst, atTimeout, atTick, atKind, nextOf, behindData, dataGood, dataBytes, Event, event, Events, events, andThen, Head, noHead, head, headOf, eventsOf}
 use Rattle.endpoint.specs.Open.{openAnswer, openedOf, freshPair}
 use Rattle.endpoint.specs.Calls.{Endpoint, callOf, callsOf}
 use Rattle.endpoint.specs.Fresh.{endpointOf, freshOf, opened-fresh}
-use Rattle.replayer.specs.Asks.{callFor, callsFor, answerFor, answersFor}
+use Rattle.calling.specs.Asks.{callFor, callsFor}
+use Rattle.replayer.specs.Answers.{answerFor, answersFor}
 use Rattle.replayer.specs.Replay.{refusal, recordOf, blankStore, eventsReplayed, headReplayed}
 use Rattle.replayer.specs.Steps.{Machine, machine, dataRead, called, openedBy, opening, stepOf, stepText, endFor, endText, runOf}
 
@@ -80,7 +81,7 @@ module _ (c : Cursor) (e : Endpoint) where
   kind-text n l = refl
 
   data-bad : (n k : ℕ) (l : List ℕ) → dataGood k l ≡ false → stepOf (machine (kindRead (tickRead c n) k) e) l ≡ machine (dueOf (kindRead (tickRead c n) k) 7) e
-  unfolding stepOf called
+  unfolding stepOf called behindData
   data-bad n k l h = rw h refl
 
   data-bad-text : (n k : ℕ) (l : List ℕ) → dataGood k l ≡ false → stepText (machine (kindRead (tickRead c n) k) e) l ≡ []
@@ -90,7 +91,7 @@ module _ (c : Cursor) (e : Endpoint) where
 -- an event whose three lines are good
 data-good : (c : Cursor) (e : Endpoint) (n k : ℕ) (l : List ℕ) → dataGood k l ≡ true
     → stepOf (machine (kindRead (tickRead c n) k) e) l ≡ machine (dueOf (kindRead (tickRead c n) k) 4) (callOf 32 32 e (callFor (event n k (dataBytes l))))
-unfolding stepOf called
+unfolding stepOf called behindData
 data-good c e n k l h = rw h refl
 
 data-text : (c : Cursor) (e : Endpoint) (n k : ℕ) (l : List ℕ) → dataGood k l ≡ true
