@@ -1,4 +1,4 @@
--- `report::answer_line` meets its contract: each way out is an instance of a law.
+-- `answer_line` meets its contract: each way out is an instance of a law.
 use mathlib.Core.Logic.{⊎-elim}
 use native.Mathlib.Omega.{arith}
 use borrow.Author.Needs.{needs}

@@ -1,7 +1,8 @@
--- `report::block_line` meets its contract: its three fields are laid one after the other.
+-- `block_line` meets its contract: its three fields are laid one after the other.
+use native.Mathlib.Omega.{arith}
 use borrow.Author.Needs.{needs}
-use Rattle.text.specs.Within.{within-as, within-then}
-use Rattle.record_lines.proofs.Parts.{block-parts}
+use Rattle.text.specs.Within.{within-as, within-length, within-then}
+use Rattle.record_lines.proofs.Parts.{room-left, block-parts}
 use Rattle.record_lines.proofs.block_line.Statement.{statement}
 use Rattle.record_lines.proofs.block_line.Tie as tie
 
@@ -24,7 +25,7 @@ slice-aggregate-field-4 : tie.Need-slice-aggregate-field-4
 slice-aggregate-field-4 c = search needs
 
 field-requires-2 : tie.Need-field-requires-2
-field-requires-2 c κs = search needs
+field-requires-2 c κs = omega (arith, room-left 42 (c .before .before .before .before .before .before .before .before .before .before .before .pre) (c .before .before .before .before .before .before .field .ensures))
 
 slice-aggregate-field-5 : tie.Need-slice-aggregate-field-5
 slice-aggregate-field-5 c = search needs
@@ -36,10 +37,7 @@ slice-aggregate-field-6 : tie.Need-slice-aggregate-field-6
 slice-aggregate-field-6 c = search needs
 
 field-requires-3 : tie.Need-field-requires-3
-field-requires-3 c κs = search needs
-
-same-length : tie.Need-same-length
-same-length c = search needs
+field-requires-3 c κs = room-left 21 (room-left 42 (c .before .before .before .before .before .before .before .before .before .before .before .before .before .before .before .before .before .before .pre) (c .before .before .before .before .before .before .before .before .before .before .before .before .before .field .ensures)) (c .before .before .before .before .before .before .field2 .ensures)
 
 returns : tie.Need-returns
 returns c =
@@ -47,6 +45,9 @@ returns c =
     (within-then (c .before .before .before .before .before .before .before .before .before .before .before .before .before .before .before .before .before .before .before .before .before .pre) (c .before .before .before .before .before .before .before .before .before .before .before .before .before .before .before .before .field .ensures)
     (λ h. within-then h (c .before .before .before .before .before .before .before .before .before .field2 .ensures)
     (λ h. c .before .before .field3 .ensures)))
+
+same-length : tie.Need-same-length
+same-length c = within-length (c .before .before .before .before .before .before .before .before .before .before .before .before .before .before .before .before .before .before .before .before .before .pre) (returns c)
 
 pub block-line-spec : {M : Type 1} → statement M
 block-line-spec =

@@ -1,7 +1,7 @@
--- `report::mark_line` meets its contract: its two fields are laid one after the other.
+-- `mark_line` meets its contract: its two fields are laid one after the other.
 use borrow.Author.Needs.{needs}
-use Rattle.text.specs.Within.{within-as, within-then}
-use Rattle.record_lines.proofs.Parts.{mark-parts}
+use Rattle.text.specs.Within.{within-as, within-length, within-then}
+use Rattle.record_lines.proofs.Parts.{room-left, mark-parts}
 use Rattle.record_lines.proofs.mark_line.Statement.{statement}
 use Rattle.record_lines.proofs.mark_line.Tie as tie
 
@@ -21,16 +21,16 @@ slice-aggregate-field-4 : tie.Need-slice-aggregate-field-4
 slice-aggregate-field-4 c = search needs
 
 field-requires-2 : tie.Need-field-requires-2
-field-requires-2 c κs = search needs
-
-same-length : tie.Need-same-length
-same-length c = search needs
+field-requires-2 c κs = room-left 21 (c .before .before .before .before .before .before .before .before .before .before .pre) (c .before .before .before .before .before .field .ensures)
 
 returns : tie.Need-returns
 returns c =
     within-as (mark-parts _ _)
     (within-then (c .before .before .before .before .before .before .before .before .before .before .before .before .before .pre) (c .before .before .before .before .before .before .before .before .field .ensures)
     (λ h. c .before .before .field2 .ensures))
+
+same-length : tie.Need-same-length
+same-length c = within-length (c .before .before .before .before .before .before .before .before .before .before .before .before .before .pre) (returns c)
 
 pub mark-line-spec : {M : Type 1} → statement M
 mark-line-spec =

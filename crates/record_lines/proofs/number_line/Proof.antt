@@ -1,7 +1,8 @@
--- `report::number_line` meets its contract: its four fields are laid one after the other.
+-- `number_line` meets its contract: its four fields are laid one after the other.
+use native.Mathlib.Omega.{arith}
 use borrow.Author.Needs.{needs}
-use Rattle.text.specs.Within.{within-as, within-then}
-use Rattle.record_lines.proofs.Parts.{number-parts}
+use Rattle.text.specs.Within.{within-as, within-length, within-then}
+use Rattle.record_lines.proofs.Parts.{room-left, number-parts}
 use Rattle.record_lines.proofs.number_line.Statement.{statement}
 use Rattle.record_lines.proofs.number_line.Tie as tie
 
@@ -24,7 +25,7 @@ slice-aggregate-field-4 : tie.Need-slice-aggregate-field-4
 slice-aggregate-field-4 c = search needs
 
 field-requires-2 : tie.Need-field-requires-2
-field-requires-2 c κs = search needs
+field-requires-2 c κs = omega (arith, room-left 63 (c .before .before .before .before .before .before .before .before .before .before .before .pre) (c .before .before .before .before .before .before .field .ensures))
 
 slice-aggregate-field-5 : tie.Need-slice-aggregate-field-5
 slice-aggregate-field-5 c = search needs
@@ -33,7 +34,7 @@ slice-aggregate-field-6 : tie.Need-slice-aggregate-field-6
 slice-aggregate-field-6 c = search needs
 
 field-requires-3 : tie.Need-field-requires-3
-field-requires-3 c κs = search needs
+field-requires-3 c κs = omega (arith, room-left 42 (room-left 63 (c .before .before .before .before .before .before .before .before .before .before .before .before .before .before .before .before .before .pre) (c .before .before .before .before .before .before .before .before .before .before .before .before .field .ensures)) (c .before .before .before .before .before .field2 .ensures))
 
 slice-aggregate-field-7 : tie.Need-slice-aggregate-field-7
 slice-aggregate-field-7 c = search needs
@@ -45,10 +46,7 @@ slice-aggregate-field-8 : tie.Need-slice-aggregate-field-8
 slice-aggregate-field-8 c = search needs
 
 field-requires-4 : tie.Need-field-requires-4
-field-requires-4 c κs = search needs
-
-same-length : tie.Need-same-length
-same-length c = search needs
+field-requires-4 c κs = room-left 21 (room-left 42 (room-left 63 (c .before .before .before .before .before .before .before .before .before .before .before .before .before .before .before .before .before .before .before .before .before .before .before .before .pre) (c .before .before .before .before .before .before .before .before .before .before .before .before .before .before .before .before .before .before .before .field .ensures)) (c .before .before .before .before .before .before .before .before .before .before .before .before .field2 .ensures)) (c .before .before .before .before .before .before .field3 .ensures)
 
 returns : tie.Need-returns
 returns c =
@@ -57,6 +55,9 @@ returns c =
     (λ h. within-then h (c .before .before .before .before .before .before .before .before .before .before .before .before .before .before .before .field2 .ensures)
     (λ h. within-then h (c .before .before .before .before .before .before .before .before .before .field3 .ensures)
     (λ h. c .before .before .field4 .ensures))))
+
+same-length : tie.Need-same-length
+same-length c = within-length (c .before .before .before .before .before .before .before .before .before .before .before .before .before .before .before .before .before .before .before .before .before .before .before .before .before .before .before .pre) (returns c)
 
 pub number-line-spec : {M : Type 1} → statement M
 number-line-spec =

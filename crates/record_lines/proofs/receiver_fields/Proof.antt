@@ -1,7 +1,8 @@
--- `report::receiver_fields` meets its contract: its five lines are laid one after the other.
+-- `receiver_fields` meets its contract: its five lines are laid one after the other.
+use native.Mathlib.Omega.{arith}
 use borrow.Author.Needs.{needs}
-use Rattle.text.specs.Within.{within-as, within-then}
-use Rattle.record_lines.proofs.Parts.{receiver-parts}
+use Rattle.text.specs.Within.{within-as, within-length, within-then}
+use Rattle.record_lines.proofs.Parts.{room-left, receiver-parts}
 use Rattle.record_lines.proofs.receiver_fields.Statement.{statement}
 use Rattle.record_lines.proofs.receiver_fields.Tie as tie
 
@@ -21,7 +22,7 @@ slice-aggregate-field-4 : tie.Need-slice-aggregate-field-4
 slice-aggregate-field-4 c = search needs
 
 field-requires-2 : tie.Need-field-requires-2
-field-requires-2 c κs = search needs
+field-requires-2 c κs = omega (arith, room-left 146 (c .before .before .before .before .before .before .before .before .before .before .pre) (c .before .before .before .before .before .field .ensures))
 
 slice-aggregate-field-5 : tie.Need-slice-aggregate-field-5
 slice-aggregate-field-5 c = search needs
@@ -30,7 +31,7 @@ slice-aggregate-field-6 : tie.Need-slice-aggregate-field-6
 slice-aggregate-field-6 c = search needs
 
 field-requires-3 : tie.Need-field-requires-3
-field-requires-3 c κs = search needs
+field-requires-3 c κs = omega (arith, room-left 103 (room-left 146 (c .before .before .before .before .before .before .before .before .before .before .before .before .before .before .before .before .pre) (c .before .before .before .before .before .before .before .before .before .before .before .field .ensures)) (c .before .before .before .before .before .field2 .ensures))
 
 slice-aggregate-field-7 : tie.Need-slice-aggregate-field-7
 slice-aggregate-field-7 c = search needs
@@ -39,7 +40,7 @@ slice-aggregate-field-8 : tie.Need-slice-aggregate-field-8
 slice-aggregate-field-8 c = search needs
 
 field-requires-4 : tie.Need-field-requires-4
-field-requires-4 c κs = search needs
+field-requires-4 c κs = omega (arith, room-left 68 (room-left 103 (room-left 146 (c .before .before .before .before .before .before .before .before .before .before .before .before .before .before .before .before .before .before .before .before .before .before .pre) (c .before .before .before .before .before .before .before .before .before .before .before .before .before .before .before .before .before .field .ensures)) (c .before .before .before .before .before .before .before .before .before .before .before .field2 .ensures)) (c .before .before .before .before .before .field3 .ensures))
 
 slice-aggregate-field-9 : tie.Need-slice-aggregate-field-9
 slice-aggregate-field-9 c = search needs
@@ -48,10 +49,7 @@ slice-aggregate-field-10 : tie.Need-slice-aggregate-field-10
 slice-aggregate-field-10 c = search needs
 
 field-requires-5 : tie.Need-field-requires-5
-field-requires-5 c κs = search needs
-
-same-length : tie.Need-same-length
-same-length c = search needs
+field-requires-5 c κs = room-left 34 (room-left 68 (room-left 103 (room-left 146 (c .before .before .before .before .before .before .before .before .before .before .before .before .before .before .before .before .before .before .before .before .before .before .before .before .before .before .before .before .pre) (c .before .before .before .before .before .before .before .before .before .before .before .before .before .before .before .before .before .before .before .before .before .before .before .field .ensures)) (c .before .before .before .before .before .before .before .before .before .before .before .before .before .before .before .before .before .field2 .ensures)) (c .before .before .before .before .before .before .before .before .before .before .before .field3 .ensures)) (c .before .before .before .before .before .field4 .ensures)
 
 returns : tie.Need-returns
 returns c =
@@ -61,6 +59,9 @@ returns c =
     (λ h. within-then h (c .before .before .before .before .before .before .before .before .before .before .before .before .before .before .field3 .ensures)
     (λ h. within-then h (c .before .before .before .before .before .before .before .before .field4 .ensures)
     (λ h. c .before .before .field5 .ensures)))))
+
+same-length : tie.Need-same-length
+same-length c = within-length (c .before .before .before .before .before .before .before .before .before .before .before .before .before .before .before .before .before .before .before .before .before .before .before .before .before .before .before .before .before .before .before .pre) (returns c)
 
 pub receiver-fields-spec : {M : Type 1} → statement M
 receiver-fields-spec =

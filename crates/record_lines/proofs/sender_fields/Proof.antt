@@ -1,4 +1,4 @@
--- `report::sender_fields` meets its contract: its seven lines are laid one after the other.
+-- `sender_fields` meets its contract: its seven lines are laid one after the other.
 use native.Mathlib.Omega.{arith}
 use borrow.Author.Needs.{needs}
 use Rattle.text.specs.Within.{within-as, within-length, within-then}
@@ -22,7 +22,7 @@ slice-aggregate-field-4 : tie.Need-slice-aggregate-field-4
 slice-aggregate-field-4 c = search needs
 
 field-requires-2 : tie.Need-field-requires-2
-field-requires-2 c κs = search needs
+field-requires-2 c κs = omega (arith, room-left 221 (c .before .before .before .before .before .before .before .before .before .before .pre) (c .before .before .before .before .before .field .ensures))
 
 slice-aggregate-field-5 : tie.Need-slice-aggregate-field-5
 slice-aggregate-field-5 c = search needs
@@ -34,7 +34,7 @@ slice-aggregate-field-6 : tie.Need-slice-aggregate-field-6
 slice-aggregate-field-6 c = search needs
 
 field-requires-3 : tie.Need-field-requires-3
-field-requires-3 c κs = search needs
+field-requires-3 c κs = omega (arith, room-left 180 (room-left 221 (c .before .before .before .before .before .before .before .before .before .before .before .before .before .before .before .before .before .pre) (c .before .before .before .before .before .before .before .before .before .before .before .before .field .ensures)) (c .before .before .before .before .before .before .field2 .ensures))
 
 slice-aggregate-field-7 : tie.Need-slice-aggregate-field-7
 slice-aggregate-field-7 c = search needs
@@ -43,7 +43,7 @@ slice-aggregate-field-8 : tie.Need-slice-aggregate-field-8
 slice-aggregate-field-8 c = search needs
 
 field-requires-4 : tie.Need-field-requires-4
-field-requires-4 c κs = search needs
+field-requires-4 c κs = omega (arith, room-left 144 (room-left 180 (room-left 221 (c .before .before .before .before .before .before .before .before .before .before .before .before .before .before .before .before .before .before .before .before .before .before .before .pre) (c .before .before .before .before .before .before .before .before .before .before .before .before .before .before .before .before .before .before .field .ensures)) (c .before .before .before .before .before .before .before .before .before .before .before .before .field2 .ensures)) (c .before .before .before .before .before .field3 .ensures))
 
 slice-aggregate-field-9 : tie.Need-slice-aggregate-field-9
 slice-aggregate-field-9 c = search needs
@@ -52,19 +52,7 @@ slice-aggregate-field-10 : tie.Need-slice-aggregate-field-10
 slice-aggregate-field-10 c = search needs
 
 field-requires-5 : tie.Need-field-requires-5
-field-requires-5 c κs =
-    omega (
-      arith,
-      room-left 112
-          (room-left 144
-          (room-left 180
-          (room-left 221
-          (c .before .before .before .before .before .before .before .before .before .before .before .before .before .before .before .before .before .before .before .before .before .before .before .before .before .before .before .before .before .pre)
-          (c .before .before .before .before .before .before .before .before .before .before .before .before .before .before .before .before .before .before .before .before .before .before .before .before .field .ensures))
-          (c .before .before .before .before .before .before .before .before .before .before .before .before .before .before .before .before .before .before .field2 .ensures))
-          (c .before .before .before .before .before .before .before .before .before .before .before .field3 .ensures))
-          (c .before .before .before .before .before .field4 .ensures),
-    )
+field-requires-5 c κs = omega (arith, room-left 112 (room-left 144 (room-left 180 (room-left 221 (c .before .before .before .before .before .before .before .before .before .before .before .before .before .before .before .before .before .before .before .before .before .before .before .before .before .before .before .before .before .pre) (c .before .before .before .before .before .before .before .before .before .before .before .before .before .before .before .before .before .before .before .before .before .before .before .before .field .ensures)) (c .before .before .before .before .before .before .before .before .before .before .before .before .before .before .before .before .before .before .field2 .ensures)) (c .before .before .before .before .before .before .before .before .before .before .before .field3 .ensures)) (c .before .before .before .before .before .field4 .ensures))
 
 slice-aggregate-field-11 : tie.Need-slice-aggregate-field-11
 slice-aggregate-field-11 c = search needs
@@ -73,21 +61,7 @@ slice-aggregate-field-12 : tie.Need-slice-aggregate-field-12
 slice-aggregate-field-12 c = search needs
 
 field-requires-6 : tie.Need-field-requires-6
-field-requires-6 c κs =
-    omega (
-      arith,
-      room-left 79
-          (room-left 112
-          (room-left 144
-          (room-left 180
-          (room-left 221
-          (c .before .before .before .before .before .before .before .before .before .before .before .before .before .before .before .before .before .before .before .before .before .before .before .before .before .before .before .before .before .before .before .before .before .before .before .pre)
-          (c .before .before .before .before .before .before .before .before .before .before .before .before .before .before .before .before .before .before .before .before .before .before .before .before .before .before .before .before .before .before .field .ensures))
-          (c .before .before .before .before .before .before .before .before .before .before .before .before .before .before .before .before .before .before .before .before .before .before .before .before .field2 .ensures))
-          (c .before .before .before .before .before .before .before .before .before .before .before .before .before .before .before .before .before .field3 .ensures))
-          (c .before .before .before .before .before .before .before .before .before .before .before .field4 .ensures))
-          (c .before .before .before .before .before .field5 .ensures),
-    )
+field-requires-6 c κs = omega (arith, room-left 79 (room-left 112 (room-left 144 (room-left 180 (room-left 221 (c .before .before .before .before .before .before .before .before .before .before .before .before .before .before .before .before .before .before .before .before .before .before .before .before .before .before .before .before .before .before .before .before .before .before .before .pre) (c .before .before .before .before .before .before .before .before .before .before .before .before .before .before .before .before .before .before .before .before .before .before .before .before .before .before .before .before .before .before .field .ensures)) (c .before .before .before .before .before .before .before .before .before .before .before .before .before .before .before .before .before .before .before .before .before .before .before .before .field2 .ensures)) (c .before .before .before .before .before .before .before .before .before .before .before .before .before .before .before .before .before .field3 .ensures)) (c .before .before .before .before .before .before .before .before .before .before .before .field4 .ensures)) (c .before .before .before .before .before .field5 .ensures))
 
 slice-aggregate-field-13 : tie.Need-slice-aggregate-field-13
 slice-aggregate-field-13 c = search needs
@@ -96,20 +70,7 @@ slice-aggregate-field-14 : tie.Need-slice-aggregate-field-14
 slice-aggregate-field-14 c = search needs
 
 field-requires-7 : tie.Need-field-requires-7
-field-requires-7 c κs =
-    room-left 40
-    (room-left 79
-    (room-left 112
-    (room-left 144
-    (room-left 180
-    (room-left 221
-    (c .before .before .before .before .before .before .before .before .before .before .before .before .before .before .before .before .before .before .before .before .before .before .before .before .before .before .before .before .before .before .before .before .before .before .before .before .before .before .before .before .before .pre)
-    (c .before .before .before .before .before .before .before .before .before .before .before .before .before .before .before .before .before .before .before .before .before .before .before .before .before .before .before .before .before .before .before .before .before .before .before .before .field .ensures))
-    (c .before .before .before .before .before .before .before .before .before .before .before .before .before .before .before .before .before .before .before .before .before .before .before .before .before .before .before .before .before .before .field2 .ensures))
-    (c .before .before .before .before .before .before .before .before .before .before .before .before .before .before .before .before .before .before .before .before .before .before .before .field3 .ensures))
-    (c .before .before .before .before .before .before .before .before .before .before .before .before .before .before .before .before .before .field4 .ensures))
-    (c .before .before .before .before .before .before .before .before .before .before .before .field5 .ensures))
-    (c .before .before .before .before .before .field6 .ensures)
+field-requires-7 c κs = room-left 40 (room-left 79 (room-left 112 (room-left 144 (room-left 180 (room-left 221 (c .before .before .before .before .before .before .before .before .before .before .before .before .before .before .before .before .before .before .before .before .before .before .before .before .before .before .before .before .before .before .before .before .before .before .before .before .before .before .before .before .before .pre) (c .before .before .before .before .before .before .before .before .before .before .before .before .before .before .before .before .before .before .before .before .before .before .before .before .before .before .before .before .before .before .before .before .before .before .before .before .field .ensures)) (c .before .before .before .before .before .before .before .before .before .before .before .before .before .before .before .before .before .before .before .before .before .before .before .before .before .before .before .before .before .before .field2 .ensures)) (c .before .before .before .before .before .before .before .before .before .before .before .before .before .before .before .before .before .before .before .before .before .before .before .field3 .ensures)) (c .before .before .before .before .before .before .before .before .before .before .before .before .before .before .before .before .before .field4 .ensures)) (c .before .before .before .before .before .before .before .before .before .before .before .field5 .ensures)) (c .before .before .before .before .before .field6 .ensures)
 
 returns : tie.Need-returns
 returns c =

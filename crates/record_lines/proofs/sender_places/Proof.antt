@@ -1,4 +1,4 @@
--- `report::sender_places` meets its contract: the places below i are laid, and each turn lays the next behind them.
+-- `sender_places` meets its contract: the places below i are laid, and each turn lays the next behind them.
 use Prim.Native.Nat.{_-_, _*_, _≤_}
 use mathlib.Core.Path.{_≡_}
 use native.Mathlib.Omega.{arith}
