@@ -22,7 +22,7 @@ unfolding same
 same-refl [] = refl
 same-refl (x ∷ xs) = rw (eq-eqb x x refl) (same-refl xs)
 
-pub same-true : (a b : List ℕ) → same a b ≡ true → a ≡ b
+same-true : (a b : List ℕ) → same a b ≡ true → a ≡ b
 unfolding same
 same-true [] [] h = refl
 same-true [] (y ∷ ys) h = clash false h refl

@@ -1,5 +1,5 @@
 -- `opened` meets its contract: the records are those that opening gave, and what is due goes by its answer.
-use mathlib.Core.Path.{_∙_, ap}
+use mathlib.Core.Path.{ap}
 use borrow.Author.Needs.{needs}
 use Rattle.endpoint.specs.declared.Opened.{Opened}
 use Rattle.replayer.proofs.Beginning.{opened-not, opened-well}
