@@ -8,6 +8,7 @@ use lib.Dec.{eqb}
 use borrow.Author.Tests.{eq-eqb, ne-eqb}
 use Rattle.common.specs.Every.{every}
 use Rattle.common.specs.Facts.{clash}
+use Rattle.window.specs.Store.{storeSize, soundWith}
 use Rattle.wire.specs.declared.Packet.{Packet}
 use Rattle.wire.specs.declared.Reading.{Reading}
 use Rattle.wire.specs.declared.Reading.the-variants.{Refused, Dummy, Read}
@@ -38,9 +39,9 @@ Gives s r store d n t q left =
 
 -- the three tests of soundness, in one
 sound-parts : (s : Sender) (r : Receiver) (store : List ℕ) (a b c : Bool)
-    → senderTests.consistentOf 32 32 s ≡ a → receiverTests.consistentOf 32 32 r ≡ b → eqb (length store) 39200 ≡ c
+    → senderTests.consistentOf 32 32 s ≡ a → receiverTests.consistentOf 32 32 r ≡ b → eqb (length store) (storeSize 32) ≡ c
     → soundOf 32 32 (halves s r store) ≡ cond a (cond b c false) false
-unfolding soundOf receiverTests.soundOf every
+unfolding soundOf soundWith every
 sound-parts s r store a b c x y z = rw (x, y, z) (go a b c)
   where
     go : (a b c : Bool) → cond a (cond (cond b (cond c true false) false) true false) false ≡ cond a (cond b c false) false
@@ -80,10 +81,10 @@ module _ (s : Sender) (r : Receiver) (store d : List ℕ) where
   unfolding receiveAnswer receiveOf
   unfit h = (rw h refl, (rw h refl, (rw h refl, rw h refl)))
 
-  pub wrong-size : (length store ≡ 39200 → ⊥) → Gives s r store d 13 s r store
+  pub wrong-size : (length store ≡ storeSize 32 → ⊥) → Gives s r store d 13 s r store
   wrong-size h =
       unfit
-      (sound-parts s r store _ _ false refl refl (ne-eqb (length store) 39200 h)
+      (sound-parts s r store _ _ false refl refl (ne-eqb (length store) (storeSize 32) h)
       ∙ ap (λ (x : Bool). cond (senderTests.consistentOf 32 32 s) x false) (none-left (receiverTests.consistentOf 32 32 r))
       ∙ none-left (senderTests.consistentOf 32 32 s))
 
@@ -93,10 +94,10 @@ module _ (s : Sender) (r : Receiver) (store d : List ℕ) where
   pub receiver-unfit : receiverTests.consistentOf 32 32 r ≡ false → Gives s r store d 13 s r store
   receiver-unfit h = unfit (sound-parts s r store _ false _ refl h refl ∙ none-left (senderTests.consistentOf 32 32 s))
 
-  module _ (hs : senderTests.consistentOf 32 32 s ≡ true) (hr : receiverTests.consistentOf 32 32 r ≡ true) (hl : length store ≡ 39200)
+  module _ (hs : senderTests.consistentOf 32 32 s ≡ true) (hr : receiverTests.consistentOf 32 32 r ≡ true) (hl : length store ≡ storeSize 32)
       (x : Reading) (read : x ≡ readOf d) where
     fit : soundOf 32 32 (halves s r store) ≡ true
-    fit = sound-parts s r store true true true hs hr (eq-eqb (length store) 39200 hl)
+    fit = sound-parts s r store true true true hs hr (eq-eqb (length store) (storeSize 32) hl)
 
     answered : readAnswer 32 (halves s r store) d x ≡ receiveAnswer 32 32 (halves s r store) d
     unfolding receiveAnswer

@@ -5,6 +5,7 @@ use Prim.Native.Nat.{ℕ}
 use mathlib.Core.Bool.{true}
 use mathlib.Core.List.{List, _++_}
 use mathlib.Core.Path.{_≡_, sym, _∙_, ap, subst}
+use Rattle.window.specs.Store.{placeSize}
 use Rattle.window.specs.Members.{In}
 use Rattle.receiver.specs.Take.{takeAnswer}
 use Rattle.receiver.specs.Determined.{determinedOf}
@@ -53,14 +54,14 @@ module _ (w cap : ℕ) (e : Endpoint) (ds : List (List ℕ)) (set : Set w cap (r
 
   -- The same with nothing asked of the end: w takes with room for any block leave nothing ready.
   pub any-order-taken : (es : List Event) → From ds es → Covers ds es
-      → (takeAnswer w cap (receiverOf (after w cap e (es ++ takesOf w) .halves)) 1225 ≡ 11)
+      → (takeAnswer w cap (receiverOf (after w cap e (es ++ takesOf w) .halves)) placeSize ≡ 11)
       × (handed w cap e (es ++ takesOf w) ≡ readyOf w (receiverOf (e .halves)) ds)
       × (after w cap e (es ++ takesOf w) .halves .receiver ≡ determinedOf w (e .halves .receiver) (itemsOf (receiverOf (e .halves)) ds))
   any-order-taken es from covers =
       let f : From ds (es ++ takesOf w) = λ d i. from d (subst (λ (l : List (List ℕ)). In d l) (takes-bring es w) i) in
       let c : Covers ds (es ++ takesOf w) = λ d i. subst (λ (l : List (List ℕ)). In d l) (sym (takes-bring es w)) (covers d i) in
-      let ready : takeAnswer w cap (receiverOf (after w cap e (es ++ takesOf w) .halves)) 1225 ≡ 11 =
-      ap (λ (x : Endpoint). takeAnswer w cap (receiverOf (x .halves)) 1225) (same (es ++ takesOf w) f)
+      let ready : takeAnswer w cap (receiverOf (after w cap e (es ++ takesOf w) .halves)) placeSize ≡ 11 =
+      ap (λ (x : Endpoint). takeAnswer w cap (receiverOf (x .halves)) placeSize) (same (es ++ takesOf w) f)
       ∙ alone.any-order-taken w cap (receiverOf (e .halves)) ds set es from covers .0 in
-      let (h, r) = any-order (es ++ takesOf w) f c 1225 ready in
+      let (h, r) = any-order (es ++ takesOf w) f c placeSize ready in
       (ready, h, r)

@@ -10,6 +10,7 @@ use lib.ListN.{replicate, length-replicate}
 use Rattle.common.specs.Every.{every}
 use Rattle.common.specs.Order.{first}
 use Rattle.numbers.specs.Widen.{widenOf}
+use Rattle.window.specs.Store.{placeSize, storeSize}
 use Rattle.window.specs.Free.{free}
 use Rattle.window.specs.Members.{In, among}
 use Rattle.wire.specs.declared.Packet.{Packet}
@@ -41,13 +42,13 @@ use Rattle.endpoint.specs.AnyOrderOfAcknowledgements.{NamedBy, received-
 
 -- opened at 0 and 0 with a timeout of 300 ms
 abbrev pub outset : Endpoint
-outset = freshOf 32 0 0 300 (fresh .store) (replicate (32 * 1225) 0)
+outset = freshOf 32 0 0 300 (fresh .store) (replicate (storeSize 32) 0)
 
 pub outset-sound : Sound 32 32 outset
 unfolding openAnswer first
 outset-sound =
-    fresh-sound 32 32 (omega arith) (omega arith) 0 0 300 (fresh .store) (replicate (32 * 1225) 0) refl (length-replicate {A = ℕ} (32 * 1225) 0)
-    (length-replicate {A = ℕ} (32 * 1225) 0)
+    fresh-sound 32 32 (omega arith) (omega arith) 0 0 300 (fresh .store) (replicate (storeSize 32) 0) refl (length-replicate {A = ℕ} (storeSize 32) 0)
+    (length-replicate {A = ℕ} (storeSize 32) 0)
 
 read-once : (p q : Packet) → Read p ≡ Read q → p ≡ q
 read-once p q e = cc
@@ -76,7 +77,7 @@ three-accepted es from d i = all-accepted 32 32 outset three three-are-a-set fre
 
 -- one history of the three: out of order, one of them twice, with takes between
 abbrev pub history : List Event
-history = arrives late ∷ takes 1225 ∷ arrives five ∷ arrives late ∷ takes 0 ∷ arrives waiving ∷ []
+history = arrives late ∷ takes placeSize ∷ arrives five ∷ arrives late ∷ takes 0 ∷ arrives waiving ∷ []
 
 pub history-from : From three history
 unfolding datagramsOf

@@ -11,6 +11,8 @@ use borrow.Author.Tests.{ltb-false, eq-eqb}
 use Rattle.common.specs.EveryLaws.{all-every}
 use Rattle.common.specs.Facts.{clash}
 use Rattle.common.specs.Order.{test}
+use Rattle.numbers.specs.Full.{highestFirst}
+use Rattle.window.specs.Store.{soundWith, storeSize}
 use Rattle.wire.specs.declared.Reading.{Reading}
 use Rattle.wire.specs.declared.Reading.the-variants.{Refused, Dummy, Read}
 use Rattle.wire.specs.Read.{readOf}
@@ -20,6 +22,7 @@ use Rattle.receiver.specs.Receive as receiver
 use Rattle.receiver.specs.Facts as receiverFacts
 use Rattle.receiver.specs.CanBeMet.{fresh-facts}
 use Rattle.receiver.specs.StaysConsistent.{receive-keeps, take-keeps}
+use Rattle.sender.specs.Record.{shortestTimeout, longestTimeout}
 use Rattle.sender.specs.declared.Sender.{Sender}
 use Rattle.sender.specs.Record.{isPending, isAcknowledged, numberPasses, noNumber, noBlock, numberAt, blockAt}
 use Rattle.sender.specs.Fresh as sending
@@ -29,7 +32,7 @@ use Rattle.sender.specs.Facts as senderFacts
 use Rattle.sender.specs.SendReady.{sound-facts}
 use Rattle.sender.specs.StaysConsistent.{acknowledge-keeps, sweep-keeps, new-sound, resend-sound}
 use Rattle.window.specs.Places.{always}
-use Rattle.endpoint.specs.Open.{openAnswer}
+use Rattle.endpoint.specs.Open.{openTests, openAnswer}
 use Rattle.endpoint.specs.Receive.{Halves, receiverOf, soundOf, packetAnswer, packetTold, packetOf, readInto, receiveOf}
 use Rattle.endpoint.specs.Calls.{Endpoint, Call, receives, takes, acknowledges, sends, resends, sweeps, sendingOf, callOf}
 use Rattle.endpoint.specs.Sound.{Sound}
@@ -57,7 +60,7 @@ module _ (w cap : ℕ) (e : Halves) (d : List ℕ) where
 module _ (w cap : ℕ) (lw : 0 < w) (uw : w ≤ cap) (e : Endpoint) (h : Sound w cap e) where
   -- a sender's record that is consistent is sound with the same store
   with-store : (q : Sender) → senderTests.consistentOf w cap q ≡ true → senderTests.soundOf w cap q (length (e .sent)) ≡ true
-  unfolding senderTests.soundOf
+  unfolding soundWith
   with-store q k = all-every _ (k, (eq-eqb _ _ (sound-facts w cap (e .halves .sender) (length (e .sent)) (h .sender) .1), tt))
 
   consistent : senderTests.consistentOf w cap (e .halves .sender) ≡ true
@@ -85,20 +88,20 @@ module _ (w cap : ℕ) (lw : 0 < w) (uw : w ≤ cap) (e : Endpoint) (h : Sound w
 
 -- what opening accepts
 pub record Opened (firstdata firstchannel timeout : ℕ) : Type 0 where
-  pub number : firstdata ≤ 65535
-  pub channel : firstchannel ≤ 65535
-  pub shortest : 300 ≤ timeout
-  pub longest : timeout ≤ 60000
+  pub number : firstdata ≤ highestFirst
+  pub channel : firstchannel ≤ highestFirst
+  pub shortest : shortestTimeout ≤ timeout
+  pub longest : timeout ≤ longestTimeout
 
 pub opened : (firstdata firstchannel timeout : ℕ) → openAnswer firstdata firstchannel timeout ≡ 0 → Opened firstdata firstchannel timeout
 unfolding openAnswer
 opened n c t a =
-    let k = all-pass (test (ltb 65535 n) 15 ∷ test (ltb 65535 c) 15 ∷ test (ltb t 300) 15 ∷ test (ltb 60000 t) 15 ∷ []) (omega arith) (sym a) in
+    let k = all-pass (openTests n c t) (omega arith) (sym a) in
     record {
-      number = ltb-false 65535 n (k .0);
-      channel = ltb-false 65535 c (k .1 .0);
-      shortest = ltb-false t 300 (k .1 .1 .0);
-      longest = ltb-false 60000 t (k .1 .1 .1 .0);
+      number = ltb-false highestFirst n (k .0);
+      channel = ltb-false highestFirst c (k .1 .0);
+      shortest = ltb-false t shortestTimeout (k .1 .1 .0);
+      longest = ltb-false longestTimeout t (k .1 .1 .1 .0);
     }
 
 module _ (w cap : ℕ) (lw : 0 < w) (uw : w ≤ cap) (n c t : ℕ) (o : Opened n c t) where
@@ -143,8 +146,8 @@ module _ (w cap : ℕ) (lw : 0 < w) (uw : w ≤ cap) (n c t : ℕ) (o : Opened n
         spareBlocks = λ i l. always cap i noBlock;
       }
 
-  pub fresh-halves : (store sent : List ℕ) → length store ≡ w * 1225 → length sent ≡ w * 1225 → Sound w cap (freshOf cap n c t store sent)
-  unfolding senderTests.soundOf
+  pub fresh-halves : (store sent : List ℕ) → length store ≡ storeSize w → length sent ≡ storeSize w → Sound w cap (freshOf cap n c t store sent)
+  unfolding soundWith
   fresh-halves store sent ls lt =
       record {
         sender = all-every _ (senderFacts.facts-consistent w cap (sending.freshOf cap n c t) sender-facts, (eq-eqb _ _ lt, tt));

@@ -1,16 +1,26 @@
 -- Opening: "Opening gives the first of each, 0 to 65,535, for both directions alike, and a loss timeout of 300 to 60,000 ms". "Opening: 15."
 use Prim.Native.Nat.{ℕ}
-use mathlib.Core.Bool.{Bool, true, cond}
-use mathlib.Core.List.{[], _∷_}
+use mathlib.Core.Bool.{cond}
+use mathlib.Core.List.{List, [], _∷_}
 use lib.Dec.{eqb, ltb}
-use Rattle.common.specs.Order.{test, first}
+use Rattle.common.specs.Order.{Test, test, first}
+use Rattle.numbers.specs.Full.{highestFirst}
 use Rattle.receiver.specs.Fresh as receiving
+use Rattle.sender.specs.Record.{shortestTimeout, longestTimeout}
 use Rattle.sender.specs.Fresh as sending
 use Rattle.endpoint.specs.declared.Opened.{Opened}
 
+abbrev pub openTests : ℕ → ℕ → ℕ → List Test
+openTests firstdata firstchannel timeout =
+    test (ltb highestFirst firstdata) 15
+    ∷ test (ltb highestFirst firstchannel) 15
+    ∷ test (ltb timeout shortestTimeout) 15
+    ∷ test (ltb longestTimeout timeout) 15
+    ∷ []
+
 unfoldable pub openAnswer : ℕ → ℕ → ℕ → ℕ
 openAnswer firstdata firstchannel timeout =
-    first (test (ltb 65535 firstdata) 15 ∷ test (ltb 65535 firstchannel) 15 ∷ test (ltb timeout 300) 15 ∷ test (ltb 60000 timeout) 15 ∷ [])
+    first (openTests firstdata firstchannel timeout)
 
 -- two fresh halves
 abbrev pub freshPair : ℕ → ℕ → ℕ → ℕ → ℕ → Opened
@@ -26,8 +36,3 @@ unfoldable pub openedOf : ℕ → ℕ → ℕ → ℕ → Opened
 openedOf cap firstdata firstchannel timeout =
     cond (eqb (openAnswer firstdata firstchannel timeout) 0) (freshPair cap 0 firstdata firstchannel timeout)
     (freshPair cap (openAnswer firstdata firstchannel timeout) 0 0 0)
-
--- is a value out of range?
-unfoldable pub outOfRange : ℕ → ℕ → ℕ → Bool
-outOfRange firstdata firstchannel timeout =
-    cond (ltb 65535 firstdata) true (cond (ltb 65535 firstchannel) true (cond (ltb timeout 300) true (ltb 60000 timeout)))

@@ -4,6 +4,7 @@ use Prim.Native.Nat.{ℕ, _*_, _≤_, _<_}
 use mathlib.Core.List.{List, [], _∷_}
 use mathlib.Core.Path.{_≡_, sym, subst}
 use lib.ListN.{length}
+use Rattle.window.specs.Store.{storeSize}
 use Rattle.endpoint.specs.declared.Opened.{Opened}
 use Rattle.endpoint.specs.Open.{openAnswer, openedOf}
 use Rattle.endpoint.specs.Calls.{Endpoint, Call, callOf, callsOf}
@@ -21,13 +22,13 @@ module _ (w cap : ℕ) (lw : 0 < w) (uw : w ≤ cap) where
   calls-keep e h (c ∷ cs) = calls-keep (callOf w cap e c) (call-keeps e h c) cs
 
   pub fresh-sound : (firstdata firstchannel timeout : ℕ) (store sent : List ℕ) → openAnswer firstdata firstchannel timeout ≡ 0
-      → length store ≡ w * 1225 → length sent ≡ w * 1225 → Sound w cap (freshOf cap firstdata firstchannel timeout store sent)
+      → length store ≡ storeSize w → length sent ≡ storeSize w → Sound w cap (freshOf cap firstdata firstchannel timeout store sent)
   fresh-sound firstdata firstchannel timeout store sent a ls lt =
       fresh-halves w cap lw uw firstdata firstchannel timeout (opened firstdata firstchannel timeout a) store sent ls lt
 
   -- So every endpoint that an accepted opening and calls make is sound.
   pub reached-sound : (firstdata firstchannel timeout : ℕ) (store sent : List ℕ) → openAnswer firstdata firstchannel timeout ≡ 0
-      → length store ≡ w * 1225 → length sent ≡ w * 1225 → (cs : List Call)
+      → length store ≡ storeSize w → length sent ≡ storeSize w → (cs : List Call)
       → Sound w cap (callsOf w cap (endpointOf (openedOf cap firstdata firstchannel timeout) store sent) cs)
   reached-sound firstdata firstchannel timeout store sent a ls lt cs =
       calls-keep (endpointOf (openedOf cap firstdata firstchannel timeout) store sent)

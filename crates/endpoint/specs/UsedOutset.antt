@@ -9,6 +9,7 @@ use lib.ListN.{length, replicate, length-append, length-replicate, set}
 use borrow.Author.Tests.{eq-eqb}
 use Rattle.common.specs.Every.{every, allBelow, countBelow, implies}
 use Rattle.common.specs.EveryLaws.{all-every}
+use Rattle.window.specs.Store.{soundWith, placeSize, storeSize}
 use Rattle.receiver.specs.declared.Receiver.{Receiver}
 use Rattle.receiver.specs.Record.{empty, holding}
 use Rattle.receiver.specs.Consistent as receiverTests
@@ -44,7 +45,7 @@ otherPlaces = 0x08 ∷ replicate 37974 0
 abbrev pub usedStore : List ℕ
 usedStore = firstPlace ++ otherPlaces
 
-first-long : length firstPlace ≡ 1225
+first-long : length firstPlace ≡ placeSize
 unfolding firstPlace
 first-long = let l = length-replicate {A = ℕ} 1223 0 in omega arith
 
@@ -52,7 +53,7 @@ others-long : length otherPlaces ≡ 37975
 unfolding otherPlaces
 others-long = let l = length-replicate {A = ℕ} 37974 0 in omega arith
 
-store-long : length usedStore ≡ 32 * 1225
+store-long : length usedStore ≡ storeSize 32
 store-long = length-append firstPlace otherPlaces ∙ omega (arith, first-long, others-long)
 
 -- the sender's half
@@ -78,23 +79,23 @@ usedSender =
     }
 
 abbrev pub used : Endpoint
-used = record { halves = halves usedSender usedReceiver usedStore; sent = replicate (32 * 1225) 0 }
+used = record { halves = halves usedSender usedReceiver usedStore; sent = replicate (storeSize 32) 0 }
 
 -- Both records are consistent, and both stores of the right size.
 receiver-consistent : receiverTests.consistentOf 32 32 usedReceiver ≡ true
-unfolding receiverTests.consistentOf every allBelow implies receiverTests.markOk receiverTests.holdOk receiverTests.spareMark receiverTests.spareHold
+unfolding receiverTests.consistentOf every allBelow implies receiverTests.boundsFit receiverTests.markFits receiverTests.holdFits receiverTests.markOk receiverTests.holdOk receiverTests.spareMark receiverTests.spareHold
 receiver-consistent = refl
 
 pub sender-consistent : senderTests.consistentOf 32 32 usedSender ≡ true
 unfolding senderTests.consistentOf every allBelow countBelow implies senderTests.zeroNumber senderTests.zeroBlock senderTests.numberFits senderTests.carries
-    senderTests.oneCarrier senderTests.blockFits senderTests.numberOk senderTests.blockOk senderTests.spareNumber senderTests.spareBlock
+    senderTests.oneCarrier senderTests.blockFits senderTests.rangeFits senderTests.timeoutFits senderTests.numberOk senderTests.blockOk senderTests.spareNumber senderTests.spareBlock
 sender-consistent = refl
 
 pub used-sound : Sound 32 32 used
-unfolding senderTests.soundOf receiverTests.soundOf
+unfolding soundWith
 used-sound =
     record {
-      sender = all-every _ (sender-consistent, (eq-eqb _ _ (length-replicate {A = ℕ} (32 * 1225) 0), tt));
+      sender = all-every _ (sender-consistent, (eq-eqb _ _ (length-replicate {A = ℕ} (storeSize 32) 0), tt));
       receiver = all-every _ (receiver-consistent, (eq-eqb _ _ store-long, tt));
     }
 

@@ -14,6 +14,7 @@ use Rattle.common.specs.Every.{every}
 use Rattle.common.specs.Facts.{clash}
 use Rattle.common.specs.Order.{first}
 use Rattle.numbers.specs.Widen.{widenOf}
+use Rattle.window.specs.Store.{placeSize}
 use Rattle.vector.specs.Says.{saysOf, bitsOf, statesIn, statesOf, names}
 use Rattle.window.specs.Free.{free}
 use Rattle.window.specs.Members.{In, among, top}
@@ -27,7 +28,7 @@ use Rattle.receiver.specs.declared.Receiver.{Receiver}
 use Rattle.receiver.specs.Record.{State, empty, holding, contents}
 use Rattle.receiver.specs.Packet.{Packet}
 use Rattle.receiver.specs.AnyOrder.{packetsOf, itemsOf, readyOf}
-use Rattle.receiver.specs.Receive.{onSome, dataNumber, channelNumber, aoaNumber, packetFrom}
+use Rattle.receiver.specs.Receive.{onSome, dataNumber, channelNumber, ifFlagged, packetFrom}
 use Rattle.receiver.specs.Determined.{itemOf, inside, markedIn, heldIn, seenBy, hasBy, lengthIn, lengthBy, floorBy, baseBy, endBy, dueBy, determinedOf, blockIn, bodyBy, blocksFrom}
 use Rattle.receiver.specs.History.{Event, arrives, takes, datagramsOf, takesOf}
 use Rattle.receiver.specs.Set.{Set, packetAt, From, Covers}
@@ -84,7 +85,7 @@ packets = fortyPacket ∷ againPacket ∷ waivingPacket ∷ []
 
 three-bring : Brings usedReceiver forty fortyPacket × Brings usedReceiver again againPacket × Brings usedReceiver waiving waivingPacket
 unfolding every readOf readPacket first swapped droppedBy endOf outside sixOf ackEnd overheadEnd delayEnd aoaEnd numberEnd vectorEnd channelEnd valuesOf packetOf partOf
-    packetFrom onSome dataNumber channelNumber aoaNumber widenOf
+    packetFrom onSome dataNumber channelNumber ifFlagged widenOf
 three-bring = ((refl, refl, refl, refl), (refl, refl, refl, refl), (refl, refl, refl, refl))
 
 some-held : (heldIn 32 usedReceiver 31 ≡ false) × (body 32 ≡ contents 32 held 32) × (heldIn 32 usedReceiver 35 ≡ false)
@@ -287,21 +288,21 @@ module _ (cs : List Call) (ds : List (List ℕ)) (es : List Event) (b : Between 
 
 -- One such history of both: out of order, with repeats, with takes and written acknowledgements between.
 abbrev pub usedEvents : List Event
-usedEvents = takes 1225 ∷ arrives waiving ∷ arrives again ∷ arrives forty ∷ takes 1 ∷ arrives waiving ∷ []
+usedEvents = takes placeSize ∷ arrives waiving ∷ arrives again ∷ arrives forty ∷ takes 1 ∷ arrives waiving ∷ []
 
 abbrev pub usedCalls : List Call
 usedCalls =
-    receives neverSent ∷ calls.takes 1225 ∷ receives waiving ∷ acknowledges 7 0 1232 ∷ receives nineVector ∷ receives again ∷ receives forty ∷ calls.takes 1
+    receives neverSent ∷ calls.takes placeSize ∷ receives waiving ∷ acknowledges 7 0 1232 ∷ receives nineVector ∷ receives again ∷ receives forty ∷ calls.takes 1
     ∷ receives fiveAck ∷ acknowledges 9 1 8 ∷ receives waiving ∷ receives nineVector ∷ map callFor (takesOf 32)
 
 takes-last : (k : ℕ) → Between (map callFor (takesOf k)) [] (takesOf k)
 unfolding takesOf
 takes-last zero = nothing
-takes-last (suc k) = taken 1225 (takes-last k)
+takes-last (suc k) = taken placeSize (takes-last k)
 
 both-between : Between usedCalls (neverSent ∷ nineVector ∷ fiveAck ∷ nineVector ∷ []) (usedEvents ++ takesOf 32)
 both-between =
-    tells neverSent never-ack (taken 1225 (brings waiving (data-no-ack waiving waiving-data) (written 7 0 1232
+    tells neverSent never-ack (taken placeSize (brings waiving (data-no-ack waiving waiving-data) (written 7 0 1232
     (tells nineVector nine-ack (brings again (data-no-ack again again-data) (brings forty (data-no-ack forty forty-data) (taken 1
     (tells fiveAck five-ack (written 9 1 8 (brings waiving (data-no-ack waiving waiving-data) (tells nineVector nine-ack (takes-last 32))))))))))))
 

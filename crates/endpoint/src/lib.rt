@@ -3,7 +3,7 @@
 // receiver, `send`, `resend` and `sweep` of the sender.
 ghost use mathlib.Core.Path.{_≡_};
 ghost use Rattle.wire.specs.Flags.{either, ackIn, vectorIn};
-ghost use Rattle.endpoint.specs.Open.{outOfRange, openedOf};
+ghost use Rattle.endpoint.specs.Open.{openAnswer, openedOf};
 ghost use Rattle.endpoint.specs.Receive.{halves, receiveAnswer, receiveOf};
 use arriving::packet;
 use receiver::Receiver;
@@ -12,12 +12,7 @@ use wire::Reading;
 use wire::bits;
 
 // The highest first number of either kind.
-const FIRST: u32 = 65535;
-
-// The shortest and the longest loss timeout, in milliseconds.
-const SHORTEST: u32 = 300;
-
-const LONGEST: u32 = 60000;
+const FIRST: u32 = numbers::FIRST as u32;
 
 // What opening answers: document 01's number, and both records; where it is refused they are all zero, and the sender's is inconsistent.
 pub struct Opened {
@@ -39,29 +34,33 @@ pub struct Received {
     pub answer: u8,
 }
 
-// Is an opening value out of range?
-fn out_of_range(firstdata: u32, firstchannel: u32, timeout: u32) -> bool
-    ensures { λ b. ⌜ b ≡ outOfRange firstdata firstchannel timeout ⌝ }
+// Document 01's number for what an endpoint is to be opened with.
+fn open_answer(firstdata: u32, firstchannel: u32, timeout: u32) -> u8
+    ensures { λ n. ⌜ n ≡ openAnswer firstdata firstchannel timeout ⌝ }
 {
     if FIRST < firstdata {
-        return true;
+        return 15;
     }
     if FIRST < firstchannel {
-        return true;
+        return 15;
     }
-    if timeout < SHORTEST {
-        return true;
+    if timeout < sender::SHORTEST_TIMEOUT {
+        return 15;
     }
-    LONGEST < timeout
+    if sender::LONGEST_TIMEOUT < timeout {
+        return 15;
+    }
+    0
 }
 
 // Opens an endpoint: the first number of each kind, for both directions alike, and the loss timeout. Refused with 15.
 pub fn open(firstdata: u32, firstchannel: u32, timeout: u32) -> Opened
     ensures { λ x. ⌜ x ≡ openedOf 32 firstdata firstchannel timeout ⌝ }
 {
-    if out_of_range(firstdata, firstchannel, timeout) {
+    let answer = open_answer(firstdata, firstchannel, timeout);
+    if answer != 0 {
         return Opened {
-            answer: 15,
+            answer,
             sender: sender::opened(0, 0, 0),
             receiver: receiver::opened(0, 0),
         };
@@ -93,7 +92,7 @@ pub fn receive(s: Sender, r: Receiver, store: &mut [u8], d: &[u8]) -> Received
     ensures receiver { λ x. ⌜ x .receiver ≡ receiveOf 32 32 (halves s r (now (store .entry))) (now (d .entry)) .receiver ⌝ }
     ensures bytes { λ x. ⌜ now (store .exit) ≡ receiveOf 32 32 (halves s r (now (store .entry))) (now (d .entry)) .store ⌝ }
 {
-    if store.len() != receiver::STORE {
+    if store.len() != window::STORE {
         return Received {
             sender: s,
             receiver: r,

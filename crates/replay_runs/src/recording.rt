@@ -8,7 +8,7 @@ use common::Written;
 fn head(out: &mut [u8]) -> usize
     ensures { λ r. ⌜ r ≤ length (now (out .entry)) ⌝ }
 {
-    match trace::writing::head(0, 0, 1000, out) {
+    match trace_writing::head(0, 0, 1000, out) {
         Written::Refused(_) => 0,
         Written::Wrote(k) => k,
     }
@@ -19,7 +19,7 @@ fn event(out: &mut [u8], at: usize, tick: u32, kind: u8, bytes: &[u8]) -> usize
     requires { ⌜ at ≤ length (now out) ⌝ }
     ensures { λ r. ⌜ r ≤ length (now (out .entry)) ⌝ }
 {
-    match trace::writing::event(tick, kind, bytes, &mut out[at..]) {
+    match trace_writing::event(tick, kind, bytes, &mut out[at..]) {
         Written::Refused(_) => at,
         Written::Wrote(k) => at + k,
     }

@@ -17,7 +17,7 @@ fn answers(text: &[u8]) -> usize
         if text[from] != 97 {
             return from;
         }
-        let end = trace::reading::find(text, from, trace::NEWLINE);
+        let end = trace_words::find(text, from, trace::NEWLINE);
         if text.len() <= end {
             return from;
         }

@@ -9,8 +9,8 @@ use lib.ListN.{length}
 use Rattle.text.specs.Within.{LaidWithin, within-as, within-wider, within-then}
 use Rattle.sender.specs.declared.Sender.{Sender}
 use Rattle.receiver.specs.declared.Receiver.{Receiver}
-use Rattle.replayer.specs.Record.{recordText}
-use Rattle.replayer.specs.Asks.{answerLine}
+use Rattle.record_lines.specs.Record.{recordText}
+use Rattle.record_lines.specs.AnswerLine.{answerLine}
 use Rattle.trace.specs.Lines.{linesOf}
 use Rattle.replayer.specs.Replay.{refusal, blankStore, replayOf}
 use Rattle.replayer.specs.Steps.{begun, endFor, runOf}

@@ -17,24 +17,28 @@ use Rattle.common.specs.Laid.{laid-nothing}
 use Rattle.text.specs.Ascii.{ascii}
 use Rattle.text.specs.Within.{LaidWithin, within, within-as}
 use Rattle.trace.specs.declared.Cursor.{Cursor}
-use Rattle.trace.specs.declared.reading.Value.{Value}
-use Rattle.trace.specs.declared.reading.Value.the-variants.{Bad, Given}
-use Rattle.trace.specs.declared.reading.Pair.{Pair}
-use Rattle.trace.specs.declared.reading.Pair.the-variants as pair
+use Rattle.trace.specs.declared.Value.{Value}
+use Rattle.trace.specs.declared.Value.the-variants.{Bad, Given}
+use Rattle.trace.specs.declared.Pair.{Pair}
+use Rattle.trace.specs.declared.Pair.the-variants as pair
 use Rattle.trace.specs.Words.{same}
 use Rattle.trace.specs.Numbers.{numberUnder, firstOf, onNumber, onPair}
 use Rattle.trace.specs.Kinds.{kindOf}
-use Rattle.trace.specs.Read.{dueOf, firstRead, timeoutRead, tickRead, kindRead, atFormat, atEdition, atFirst, atTimeout, atTick, atKind, nextOf, dataGood, dataBytes, dataAnswer}
+use Rattle.trace.specs.Read.{dueOf, firstRead, timeoutRead, tickRead, kindRead, atFormat, atEdition, atFirst, atTimeout, atTick, atKind, nextOf, behindData, dataGood, dataBytes, dataAnswer}
 use Rattle.trace.specs.WordsLaws.{numberUnder-long, kindOf-long}
+use Rattle.trace.proofs.Due.{behind-taken, behind-refused}
 use Rattle.trace.specs.DataLaws.{data-long, data-length, data-bad, data-fits}
 use Rattle.endpoint.specs.declared.Opened.{Opened}
 use Rattle.endpoint.specs.Fresh.{endpointOf}
 use Rattle.endpoint.specs.Calls.{Endpoint, receives, sends, resends, takes, sweeps, acknowledges}
 use Rattle.replayer.specs.declared.State.{State}
-use Rattle.replayer.specs.declared.calling.Called.{Called}
-use Rattle.replayer.specs.Asks.{callBy, isSweep, answerLine, answerFor}
+use Rattle.calling.specs.declared.Called.{Called}
+use Rattle.calling.specs.Asks.{callBy}
+use Rattle.replayer.specs.Answers.{isSweep, answerFor}
+use Rattle.record_lines.specs.AnswerLine.{answerLine}
 use Rattle.replayer.specs.Steps.{machine, dataRead, called, openedBy, openWith, opensAt, opening, stepOf, stepText}
-use Rattle.replayer.specs.Does.{Does, paid, Steps, machineOf}
+use Rattle.calling.specs.Does.{Does}
+use Rattle.replayer.specs.Takes.{paid, Steps, machineOf}
 
 -- The line of data, read into a buffer of 32,768 bytes or more: it is refused where it is badly written, and for nothing else.
 
@@ -108,27 +112,27 @@ nothing : {b : List ℕ} (d : List ℕ) (at : ℕ) → b ≡ [] → LaidWithin 3
 nothing d at e = within-as (sym e) (within 30 (omega arith) (laid-nothing d at))
 
 module _ (s : State) (l out : List ℕ) (at : ℕ) where
-  pub line-refused : (store sent : List ℕ) (q : Cursor) → s .cursor .due ≡ 6 → dataGood (s .cursor .kind) l ≡ false → q ≡ dueOf (s .cursor) 7
+  pub line-refused : (store sent : List ℕ) (q : Cursor) → s .cursor .due ≡ 6 → dataGood (s .cursor .kind) l ≡ false → q ≡ behindData (s .cursor) false
       → Steps (machineOf s store sent) l out at (record { cursor = q; sender = s .sender; receiver = s .receiver }) store sent out at
   unfolding stepOf called stepText dataRead
   line-refused store sent q h g e =
       record {
         left = rw (eq-eqb _ _ h, g, e) refl;
         text = nothing out at (rw (eq-eqb _ _ h, g) refl);
-        room = omega (arith, paid-seven, ap (λ (c : Cursor). paid (c .due)) e);
+        room = omega (arith, paid-seven, ap (λ (c : Cursor). paid (c .due)) (e ∙ sym (behind-refused (s .cursor) false h refl refl)));
       }
 
   pub line-called : (store sent store′ sent′ out′ : List ℕ) (bytes : List ℕ) (x : Called) (r : ℕ) (q : Cursor) → s .cursor .due ≡ 6
-      → dataGood (s .cursor .kind) l ≡ true → q ≡ dueOf (s .cursor) 4 → bytes ≡ dataBytes l
+      → dataGood (s .cursor .kind) l ≡ true → q ≡ behindData (s .cursor) true → bytes ≡ dataBytes l
       → Does (machineOf s store sent .endpoint) (callBy (s .cursor .kind) (s .cursor .tick) bytes) x store′ sent′
       → LaidWithin 30 (answerLine (eqb (s .cursor .kind) 5) (x .answer) (x .lost)) out at out′ r
       → Steps (machineOf s store sent) l out at (record { cursor = q; sender = x .sender; receiver = x .receiver }) store′ sent′ out′ r
   unfolding stepOf called stepText dataRead answerFor
   line-called store sent store′ sent′ out′ bytes x r q h g k b y z =
       record {
-        left = rw (eq-eqb _ _ h, g, ← b, k) (ap (λ (e : Endpoint). machine (dueOf (s .cursor) 4) e) (y .left));
+        left = rw (eq-eqb _ _ h, g, ← b, k) (ap (λ (e : Endpoint). machine (behindData (s .cursor) true) e) (y .left));
         text = within-as (rw (eq-eqb _ _ h, g, ← b, y .answer, y .lost, sweep-by (s .cursor .kind) (s .cursor .tick) bytes) refl) z;
-        room = omega (arith, paid-four, ap (λ (c : Cursor). paid (c .due)) k, ap paid h, paid-six, data-long (s .cursor .kind) l g, z .room);
+        room = omega (arith, paid-four, ap (λ (c : Cursor). paid (c .due)) (k ∙ sym (behind-taken (s .cursor) true h refl refl)), ap paid h, paid-six, data-long (s .cursor .kind) l g, z .room);
       }
 
 -- The ways out of any other line.

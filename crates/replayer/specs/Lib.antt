@@ -1,9 +1,8 @@
 -- The replay of a counter's morning (document 02, W1): what it is, the same line by line, the theorems, and the laws.
-pub mod Record
-pub mod Asks
+pub mod Answers
 pub mod Replay
 pub mod Steps
-pub mod Does
+pub mod Takes
 pub mod LineLaws
 pub mod LineByLine
 pub mod RecordedReplays

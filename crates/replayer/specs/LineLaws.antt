@@ -8,20 +8,23 @@ use borrow.Author.Tests.{ne-eqb, eqb-true, lt-ltb, le-ltb, le-leb}
 use lib.Dec.{eqb, ltb}
 use Rattle.common.specs.Order.{test, first}
 use Rattle.common.specs.Facts.{clash}
+use Rattle.numbers.specs.Full.{highestFirst}
+use Rattle.sender.specs.Record.{shortestTimeout, longestTimeout}
 use Rattle.text.specs.Ascii.{ascii}
 use Rattle.trace.specs.declared.Cursor.{Cursor}
-use Rattle.trace.specs.declared.reading.Value.{Value}
-use Rattle.trace.specs.declared.reading.Value.the-variants.{Bad, Given}
-use Rattle.trace.specs.declared.reading.Pair.{Pair}
-use Rattle.trace.specs.declared.reading.Pair.the-variants as pair
+use Rattle.trace.specs.declared.Value.{Value}
+use Rattle.trace.specs.declared.Value.the-variants.{Bad, Given}
+use Rattle.trace.specs.declared.Pair.{Pair}
+use Rattle.trace.specs.declared.Pair.the-variants as pair
 use Rattle.trace.specs.Words.{same}
 use Rattle.trace.specs.Numbers.{numberUnder, firstOf, onNumber, onPair}
 use Rattle.trace.specs.Kinds.{kindOf}
-use Rattle.trace.specs.Read.{dueOf, firstRead, timeoutRead, tickRead, kindRead, atFormat, atEdition, atFirst, atTimeout, atTick, atKind, nextOf, dataGood, dataBytes, Event, event, Events, events, andThen, Head, noHead, head, headOf, eventsOf}
+use Rattle.trace.specs.Read.{dueOf, firstRead, timeoutRead, tickRead, kindRead, atFormat, atEdition, atFirst, atTimeout, atTick, atKind, nextOf, behindData, dataGood, dataBytes, Event, event, Events, events, andThen, Head, noHead, head, headOf, eventsOf}
 use Rattle.endpoint.specs.Open.{openAnswer, openedOf, freshPair}
 use Rattle.endpoint.specs.Calls.{Endpoint, callOf, callsOf}
 use Rattle.endpoint.specs.Fresh.{endpointOf, freshOf, opened-fresh}
-use Rattle.replayer.specs.Asks.{callFor, callsFor, answerFor, answersFor}
+use Rattle.calling.specs.Asks.{callFor, callsFor}
+use Rattle.replayer.specs.Answers.{answerFor, answersFor}
 use Rattle.replayer.specs.Replay.{refusal, recordOf, blankStore, eventsReplayed, headReplayed}
 use Rattle.replayer.specs.Steps.{Machine, machine, dataRead, called, openedBy, opening, stepOf, stepText, endFor, endText, runOf}
 
@@ -80,7 +83,7 @@ module _ (c : Cursor) (e : Endpoint) where
   kind-text n l = refl
 
   data-bad : (n k : ℕ) (l : List ℕ) → dataGood k l ≡ false → stepOf (machine (kindRead (tickRead c n) k) e) l ≡ machine (dueOf (kindRead (tickRead c n) k) 7) e
-  unfolding stepOf called
+  unfolding stepOf called behindData
   data-bad n k l h = rw h refl
 
   data-bad-text : (n k : ℕ) (l : List ℕ) → dataGood k l ≡ false → stepText (machine (kindRead (tickRead c n) k) e) l ≡ []
@@ -90,7 +93,7 @@ module _ (c : Cursor) (e : Endpoint) where
 -- an event whose three lines are good
 data-good : (c : Cursor) (e : Endpoint) (n k : ℕ) (l : List ℕ) → dataGood k l ≡ true
     → stepOf (machine (kindRead (tickRead c n) k) e) l ≡ machine (dueOf (kindRead (tickRead c n) k) 4) (callOf 32 32 e (callFor (event n k (dataBytes l))))
-unfolding stepOf called
+unfolding stepOf called behindData
 data-good c e n k l h = rw h refl
 
 data-text : (c : Cursor) (e : Endpoint) (n k : ℕ) (l : List ℕ) → dataGood k l ≡ true
@@ -207,7 +210,7 @@ fifteen false false false false h = clash true refl h
 
 open-fifteen : (d c t : ℕ) → eqb (openAnswer d c t) 0 ≡ false → openAnswer d c t ≡ 15
 unfolding openAnswer
-open-fifteen d c t h = fifteen (ltb 65535 d) (ltb 65535 c) (ltb t 300) (ltb 60000 t) h
+open-fifteen d c t h = fifteen (ltb highestFirst d) (ltb highestFirst c) (ltb t shortestTimeout) (ltb longestTimeout t) h
 
 opened-refused : (d k t : ℕ) → eqb (openAnswer d k t) 0 ≡ false → openedOf 32 d k t ≡ freshPair 32 (openAnswer d k t) 0 0 0
 unfolding openedOf

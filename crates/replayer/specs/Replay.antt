@@ -14,8 +14,9 @@ use Rattle.trace.specs.Read.{Head, noHead, head, headOf, Events, eventsOf}
 use Rattle.endpoint.specs.Open.{openAnswer}
 use Rattle.endpoint.specs.Calls.{Endpoint, callsOf}
 use Rattle.endpoint.specs.Fresh.{freshOf}
-use Rattle.replayer.specs.Record.{recordText}
-use Rattle.replayer.specs.Asks.{callsFor, answersFor}
+use Rattle.record_lines.specs.Record.{recordText}
+use Rattle.calling.specs.Asks.{callsFor}
+use Rattle.replayer.specs.Answers.{answersFor}
 
 -- the line of a refusal
 abbrev pub refusal : ℕ → List ℕ

@@ -1,19 +1,20 @@
 -- The same line by line: what stands between two lines is a value, and a line's step takes it to the next. `LineByLine` shows that the steps over all lines
 -- give the replay.
 use Prim.Native.Nat.{ℕ}
-use mathlib.Core.Bool.{Bool, false, cond}
+use mathlib.Core.Bool.{Bool, true, false, cond}
 use mathlib.Core.List.{List, [], _∷_, _++_}
 use lib.Dec.{eqb, ltb, leb}
 use Rattle.trace.specs.declared.Cursor.{Cursor}
-use Rattle.trace.specs.Read.{timeoutDue, tickDue, dataDue, broken, freshCursor, dueOf, nextOf, dataGood, dataBytes}
+use Rattle.trace.specs.Read.{timeoutDue, tickDue, dataDue, broken, freshCursor, dueOf, nextOf, behindData, dataGood, dataBytes}
 use Rattle.receiver.specs.declared.Receiver.{Receiver}
 use Rattle.sender.specs.declared.Sender.{Sender}
 use Rattle.endpoint.specs.declared.Opened.{Opened}
 use Rattle.endpoint.specs.Open.{freshPair, openedOf}
 use Rattle.endpoint.specs.Calls.{Endpoint, Call, callOf}
 use Rattle.endpoint.specs.Fresh.{endpointOf}
-use Rattle.replayer.specs.Asks.{callBy, answerFor}
-use Rattle.replayer.specs.Record.{recordText}
+use Rattle.calling.specs.Asks.{callBy}
+use Rattle.replayer.specs.Answers.{answerFor}
+use Rattle.record_lines.specs.Record.{recordText}
 use Rattle.replayer.specs.Replay.{refusal}
 
 -- which line is due, and the endpoint
@@ -37,8 +38,8 @@ callAt c l = callBy (c .kind) (c .tick) (dataBytes l)
 
 unfoldable pub called : Machine → List ℕ → Machine
 called m l =
-    cond (dataGood (m .cursor .kind) l) (machine (dueOf (m .cursor) tickDue) (callOf 32 32 (m .endpoint) (callAt (m .cursor) l)))
-    (machine (dueOf (m .cursor) broken) (m .endpoint))
+    cond (dataGood (m .cursor .kind) l) (machine (behindData (m .cursor) true) (callOf 32 32 (m .endpoint) (callAt (m .cursor) l)))
+    (machine (behindData (m .cursor) false) (m .endpoint))
 
 -- none is due, since opening was refused
 abbrev pub unopened : ℕ

@@ -9,11 +9,7 @@ ghost use Rattle.trace.specs.Lines.{linesOf};
 ghost use Rattle.trace.specs.Read.{dataDue, dueOf};
 ghost use Rattle.replayer.specs.Replay.{blankStore, replayOf};
 ghost use Rattle.replayer.specs.Steps.{begun, opensAt, openedBy, openWith, endFor, runOf};
-ghost use Rattle.replayer.specs.Does.{Steps, freshState, machineOf};
-
-mod calling;
-mod report;
-
+ghost use Rattle.replayer.specs.Takes.{Steps, freshState, machineOf};
 use common::Written;
 use receiver::Receiver;
 use sender::Sender;
@@ -54,19 +50,10 @@ fn begin() -> State
     ensures { λ r. ⌜ r ≡ freshState ⌝ }
 {
     State {
-        cursor: trace::reading::begin(),
+        cursor: trace_reading::begin(),
         sender: sender::opened(0, 0, 0),
         receiver: receiver::opened(0, 0),
     }
-}
-
-// A cursor with another line due.
-fn waiting(c: Cursor, due: u8) -> Cursor
-    ensures { λ r. ⌜ r ≡ dueOf c due ⌝ }
-{
-    let mut r = c;
-    r.due = due;
-    r
 }
 
 // Does the line between these two open the endpoint?
@@ -89,8 +76,10 @@ fn opened(c: Cursor) -> State
     let sender = x.sender;
     let receiver = x.receiver;
     if x.answer != 0 {
+        let mut cursor = c;
+        cursor.due = UNOPENED;
         return State {
-            cursor: waiting(c, UNOPENED),
+            cursor,
             sender,
             receiver,
         };
@@ -118,24 +107,24 @@ fn data_line(
     let sender = s.sender;
     let receiver = s.receiver;
     let mut bytes = [0u8; DATA];
-    match trace::data::read(c.kind, line, &mut bytes) {
+    match trace_data::read(c.kind, line, &mut bytes) {
         Written::Refused(_) => Stepped {
             at,
             state: State {
-                cursor: waiting(c, trace::BROKEN),
+                cursor: trace_reading::behind_data(c, false),
                 sender,
                 receiver,
             },
         },
         Written::Wrote(n) => {
             let x = calling::call(sender, receiver, store, sent, c.kind, c.tick, &bytes[..n]);
-            let end = report::answer_line(out, at, c.kind == trace::SWEEP, x.answer, x.lost);
+            let end = record_lines::answer_line(out, at, c.kind == trace::SWEEP, x.answer, x.lost);
             let after = x.sender;
             let then = x.receiver;
             Stepped {
                 at: end,
                 state: State {
-                    cursor: waiting(c, trace::TICK_DUE),
+                    cursor: trace_reading::behind_data(c, true),
                     sender: after,
                     receiver: then,
                 },
@@ -161,7 +150,7 @@ fn step(
     if due == trace::DATA_DUE {
         return data_line(s, line, store, sent, out, at);
     }
-    let n = trace::reading::next(c, line);
+    let n = trace_reading::next(c, line);
     if opens(due, n.due) {
         let state = opened(n);
         return Stepped { at, state };
@@ -188,19 +177,19 @@ fn finish(s: State, out: &mut [u8], at: usize) -> usize
     let sender = s.sender;
     let receiver = s.receiver;
     if due == trace::TICK_DUE {
-        return report::full_record(out, at, sender, receiver);
+        return record_lines::full_record(out, at, sender, receiver);
     }
     if due == UNOPENED {
-        return report::answer_line(out, at, false, 15, 0);
+        return record_lines::answer_line(out, at, false, 15, 0);
     }
     if due < trace::TICK_DUE {
-        return report::answer_line(out, at, false, 16, 0);
+        return record_lines::answer_line(out, at, false, 16, 0);
     }
     if due <= trace::BROKEN {
-        let mid = report::answer_line(out, at, false, 16, 0);
-        return report::full_record(out, mid, sender, receiver);
+        let mid = record_lines::answer_line(out, at, false, 16, 0);
+        return record_lines::full_record(out, mid, sender, receiver);
     }
-    report::answer_line(out, at, false, 16, 0)
+    record_lines::answer_line(out, at, false, 16, 0)
 }
 
 // The replay of a trace, line by line, over both stores.
@@ -212,7 +201,7 @@ fn run(trace: &[u8], store: &mut [u8], sent: &mut [u8], out: &mut [u8]) -> usize
     let mut at = 0;
     let mut from = 0;
     while from < trace.len() {
-        let end = trace::reading::find(trace, from, trace::NEWLINE);
+        let end = trace_words::find(trace, from, trace::NEWLINE);
         let x = step(state, &trace[from..end], store, sent, out, at);
         state = x.state;
         at = x.at;
@@ -237,7 +226,7 @@ fn lines(trace: &[u8], out: &mut [u8]) -> usize
     ensures { λ r. ⌜ LaidWithin 131072 (replayOf (now (trace .entry))) (now (out .entry)) 0 (now (out .exit)) r ⌝ }
 {
     if LONGEST < trace.len() {
-        return report::answer_line(out, 0, false, 16, 0);
+        return record_lines::answer_line(out, 0, false, 16, 0);
     }
     fresh_run(trace, out)
 }

@@ -8,12 +8,12 @@ use Rattle.common.specs.Choice.{when, unless}
 use Rattle.common.specs.Order.{Test, test, first, first-here, first-skip}
 use Rattle.text.specs.Ascii.{ascii}
 use Rattle.trace.specs.declared.Cursor.{Cursor}
-use Rattle.trace.specs.declared.reading.Value.the-variants.{Bad, Given}
-use Rattle.trace.specs.declared.reading.Pair.the-variants as pair
+use Rattle.trace.specs.declared.Value.the-variants.{Bad, Given}
+use Rattle.trace.specs.declared.Pair.the-variants as pair
 use Rattle.trace.specs.Words.{same}
 use Rattle.trace.specs.Numbers.{numberUnder, firstOf}
 use Rattle.trace.specs.Kinds.{kindOf}
-use Rattle.trace.specs.Read.{dueOf, firstRead, timeoutRead, tickRead, kindRead, atFormat, atEdition, atFirst, atTimeout, atTick, atKind, nextOf}
+use Rattle.trace.specs.Read.{dueOf, firstRead, timeoutRead, tickRead, kindRead, atFormat, atEdition, atFirst, atTimeout, atTick, atKind, nextOf, behindData}
 
 -- a test that a call answered
 pub here : (r b : Bool) (n : ℕ) (ts : List Test) → r ≡ b → r ≡ true → n ≡ first (test b n ∷ ts)
@@ -71,6 +71,20 @@ module _ {r : Cursor} (c : Cursor) (l : List ℕ) where
   pub next-kind : c .due ≡ 5 → r ≡ atKind c l → r ≡ nextOf c l
   unfolding nextOf atKind
   next-kind h e = rw h e
+
+-- behind a line of data: none was due, and one was that is taken or refused
+module _ (c : Cursor) (taken : Bool) where
+  pub behind-none : (c .due ≡ 6 → ⊥) → c ≡ behindData c taken
+  unfolding behindData
+  behind-none h = unless _ _ _ _ (ne-eqb (c .due) 6 h) refl
+
+  pub behind-taken : {r : Cursor} → c .due ≡ 6 → taken ≡ true → r ≡ dueOf c 4 → r ≡ behindData c taken
+  unfolding behindData
+  behind-taken h t e = rw (eq-eqb (c .due) 6 h, t) e
+
+  pub behind-refused : {r : Cursor} → c .due ≡ 6 → taken ≡ false → r ≡ dueOf c 7 → r ≡ behindData c taken
+  unfolding behindData
+  behind-refused h t e = rw (eq-eqb (c .due) 6 h, t) e
 
 -- what a line says is kept
 module _ (c : Cursor) (l : List ℕ) where

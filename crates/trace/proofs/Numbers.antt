@@ -14,9 +14,9 @@ use Rattle.common.specs.EveryLaws.{every-fails, all-every}
 use Rattle.common.specs.Facts.{clash}
 use Rattle.text.specs.Ascii.{ascii}
 use Rattle.text.specs.Decimal.{valueFrom, valueOf}
-use Rattle.trace.specs.declared.reading.Value.{Value}
-use Rattle.trace.specs.declared.reading.Value.the-variants.{Bad, Given}
-use Rattle.trace.specs.declared.reading.Pair.the-variants as pair
+use Rattle.trace.specs.declared.Value.{Value}
+use Rattle.trace.specs.declared.Value.the-variants.{Bad, Given}
+use Rattle.trace.specs.declared.Pair.the-variants as pair
 use Rattle.trace.specs.Lines.{upTo, past}
 use Rattle.trace.specs.LinesLaws.{upTo-take, past-drop}
 use Rattle.trace.specs.Words.{startsWith}

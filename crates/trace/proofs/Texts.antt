@@ -1,12 +1,12 @@
--- Laws of a trace written: the parts of its lines, and bytes as text, two digits at a time.
+-- Laws of a trace written: the parts of its lines, how long an event is at most, and bytes as text, two digits at a time.
 use Prim.Native.Nat.{ℕ, _+_, _%_, _/_, _≤_, _<_}
-use mathlib.Core.Bool.{true, false, not}
+use mathlib.Core.Bool.{Bool, true, false, cond, not}
 use mathlib.Core.List.{List, [], _∷_, _++_, append-assoc, append-nil}
 use mathlib.Core.Path.{_≡_, refl, sym, _∙_, ap}
 use native.Mathlib.Numerals.{add-one}
 use native.Mathlib.Omega.{arith}
 use borrow.Author.Tests.{lt-ltb, le-ltb, le-leb}
-use lib.Dec.{leb}
+use lib.Dec.{eqb, leb}
 use lib.ListN.{length, take, set, getD, length-set, length-append}
 use lib.Seq.{take-all, take-suc}
 use Rattle.common.specs.EveryLaws.{all-every}
@@ -14,6 +14,8 @@ use Rattle.common.specs.Laid.{Laid, laid-nothing, laid-then, laid-as, laid-leng
 use Rattle.common.specs.Order.{first-here, first-skip, first-none}
 use Rattle.common.specs.Put.{joined, putOf, put-one, put-put}
 use Rattle.text.specs.Ascii.{ascii}
+use Rattle.text.specs.Decimal.{decimalOf}
+use Rattle.text.specs.Laws.{decimal-length}
 use Rattle.text.specs.Lines.{between}
 use Rattle.text.specs.Within.{LaidWithin, text-front}
 use Rattle.trace.specs.Hex.{hexDigit, hexText}
@@ -90,6 +92,35 @@ event-lays lead bytes h x y z =
     let l = laid-length (omega arith) x in
     laid-then (omega arith) x (laid-then (omega (arith, x .next)) y z)
 
+-- the longest word of a kind is `resend`
+kind-length : (k : ℕ) → length (kindText k) ≤ 6
+unfolding kindText
+kind-length k = go (eqb k 1) (eqb k 2) (eqb k 3) (eqb k 4) (eqb k 5)
+  where
+    go : (a b c d e : Bool)
+        → length (cond a (ascii "in") (cond b (ascii "send") (cond c (ascii "resend") (cond d (ascii "take") (cond e (ascii "sweep") (ascii "ack")))))) ≤ 6
+    go true b c d e = omega arith
+    go false true c d e = omega arith
+    go false false true d e = omega arith
+    go false false false true e = omega arith
+    go false false false false true = omega arith
+    go false false false false false = omega arith
+
+-- an event's lines up to its bytes, of a tick below 2^32
+lead-length : (tick kind : ℕ) → tick < 4294967296 → length (leadText tick kind) ≤ 33
+unfolding leadText
+lead-length tick kind h =
+    let word = kindText kind ++ ascii "\ndata=" in
+    let e : leadText tick kind ≡ ascii "tick=" ++ (decimalOf tick ++ (ascii "\nkind=" ++ word)) = simp (append-assoc, append-nil) in
+    omega (
+      arith,
+      ap length e,
+      length-append (decimalOf tick) (ascii "\nkind=" ++ word),
+      length-append (kindText kind) (ascii "\ndata="),
+      decimal-length 10 tick (omega arith) (omega arith),
+      kind-length kind,
+    )
+
 module _ (tick kind : ℕ) (bytes : List ℕ) where
   event-length : length (eventText tick kind bytes) ≡ length (leadText tick kind) + (length bytes + length bytes) + 1
   event-length =
@@ -100,6 +131,9 @@ module _ (tick kind : ℕ) (bytes : List ℕ) where
         length-append (hexText bytes) (ascii "\n"),
         hex-length bytes,
       )
+
+  pub event-bound : tick < 4294967296 → length (eventText tick kind bytes) ≤ 44 + (length bytes + length bytes)
+  event-bound h = omega (arith, event-length, lead-length tick kind h)
 
   -- the answer at each way out
   pub event-bad : (room : ℕ) → eventGood kind (length bytes) ≡ false → 16 ≡ eventAnswer tick kind bytes room

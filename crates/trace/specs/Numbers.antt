@@ -7,10 +7,10 @@ use lib.Dec.{eqb, ltb, leb}
 use Rattle.common.specs.Every.{every}
 use Rattle.text.specs.Ascii.{ascii}
 use Rattle.text.specs.Decimal.{valueOf}
-use Rattle.trace.specs.declared.reading.Value.{Value}
-use Rattle.trace.specs.declared.reading.Value.the-variants.{Bad, Given}
-use Rattle.trace.specs.declared.reading.Pair.{Pair}
-use Rattle.trace.specs.declared.reading.Pair.the-variants as pair
+use Rattle.trace.specs.declared.Value.{Value}
+use Rattle.trace.specs.declared.Value.the-variants.{Bad, Given}
+use Rattle.trace.specs.declared.Pair.{Pair}
+use Rattle.trace.specs.declared.Pair.the-variants as pair
 use Rattle.trace.specs.Lines.{upTo, past}
 use Rattle.trace.specs.Words.{startsWith}
 

@@ -146,6 +146,10 @@ nextOf c l =
     (cond (eqb (c .due) tickDue) (atTick c l)
     (cond (eqb (c .due) kindDue) (atKind c l) c)))))
 
+-- behind a line of data the next tick is due, or no line any more where it was refused; where no data is due, nothing changes
+unfoldable pub behindData : Cursor → Bool → Cursor
+behindData c taken = cond (eqb (c .due) dataDue) (dueOf c (cond taken tickDue broken)) c
+
 -- a line of data: 16, then 14
 unfoldable pub dataAnswer : ℕ → List ℕ → ℕ → ℕ
 dataAnswer kind l room = first (test (not (dataGood kind l)) 16 ∷ test (ltb room (length (dataBytes l))) 14 ∷ [])

@@ -1,22 +1,24 @@
--- What the writer writes the reader's calls read back, line by line: `next` over the lines, and `data::read` where data is due, gather the same head and events.
+-- What the writer writes the reader's calls read back, line by line: `next` over the lines, and where data is due `read` and then `behind_data`, gather the same
+-- head and events.
 use Prim.Native.Nat.{ℕ, _<_}
-use mathlib.Core.Bool.{true, false, cond}
+use mathlib.Core.Bool.{Bool, true, false, cond}
 use mathlib.Core.List.{List, [], _∷_, _++_, append-assoc, append-nil}
 use mathlib.Core.Path.{_≡_, refl, sym, _∙_, ap}
 use native.Mathlib.Omega.{arith}
-use borrow.Author.Tests.{ne-eqb}
+use borrow.Author.Tests.{eq-eqb, ne-eqb}
 use lib.Dec.{eqb}
 use lib.ListN.{length}
 use Rattle.text.specs.Ascii.{ascii}
 use Rattle.trace.specs.declared.Cursor.{Cursor}
-use Rattle.trace.specs.declared.reading.Value.the-variants.{Given}
-use Rattle.trace.specs.declared.reading.Pair.the-variants.{Both}
+use Rattle.trace.specs.declared.Value.the-variants.{Given}
+use Rattle.trace.specs.declared.Pair.the-variants.{Both}
 use Rattle.trace.specs.Lines.{linesOf}
 use Rattle.trace.specs.Words.{same}
 use Rattle.trace.specs.Numbers.{numberUnder, firstOf}
 use Rattle.trace.specs.Kinds.{kindOf}
-use Rattle.trace.specs.Read.{Event, event, editionDue, firstDue, tickDue, dataDue, broken, freshCursor, dueOf, firstRead, timeoutRead, tickRead, kindRead, atFormat, atEdition, atFirst, atTimeout, atTick, atKind, nextOf, dataGood, dataBytes}
+use Rattle.trace.specs.Read.{Event, event, editionDue, firstDue, tickDue, dataDue, freshCursor, dueOf, firstRead, timeoutRead, tickRead, kindRead, atFormat, atEdition, atFirst, atTimeout, atTick, atKind, nextOf, behindData, dataGood, dataBytes, dataAnswer}
 use Rattle.trace.specs.Write.{eventText, headText, eventsText, traceText}
+use Rattle.trace.specs.DataLaws.{data-length, data-fits}
 use Rattle.trace.specs.ReadsBackLaws.{head-lines, event-lines, under-back, first-back, kind-back, data-back, bytes-back, good-kind, kind-bounds}
 use Rattle.trace.specs.ReadsBack.{Good, AllGood, nil, cons}
 
@@ -28,13 +30,16 @@ pub record Gathered : Type 0 where
 abbrev pub gathered : Cursor → List Event → Gathered
 gathered c es = record { cursor = c; events = es }
 
--- one line: `data::read` where data is due, and a tick is due behind it; else `next`
+-- does `read` take a line of data, into a buffer that has room for its bytes?
+unfoldable pub taken : Cursor → List ℕ → Bool
+taken c l = eqb (dataAnswer (c .kind) l (length (dataBytes l))) 0
+
+-- one line: where data is due `read`, which gives the event its bytes, and then `behind_data`; else `next`
 unfoldable pub gatherLine : Gathered → List ℕ → Gathered
 gatherLine g l =
     cond (eqb (g .cursor .due) dataDue)
-    (cond (dataGood (g .cursor .kind) l)
-    (gathered (dueOf (g .cursor) tickDue) (g .events ++ (event (g .cursor .tick) (g .cursor .kind) (dataBytes l) ∷ [])))
-    (gathered (dueOf (g .cursor) broken) (g .events)))
+    (gathered (behindData (g .cursor) (taken (g .cursor) l))
+    (g .events ++ cond (taken (g .cursor) l) (event (g .cursor .tick) (g .cursor .kind) (dataBytes l) ∷ []) []))
     (gathered (nextOf (g .cursor) l) (g .events))
 
 unfoldable pub gatherLines : Gathered → List (List ℕ) → Gathered
@@ -81,6 +86,11 @@ head-gathered d c t dl cl tl rest =
     ∙ gather-next _ _ _ _ (first-line _ d c (first-back d c dl cl))
     ∙ gather-next _ _ _ _ (timeout-line _ d c t (under-back (ascii "timeout=") t tl))
 
+-- a line of data that is well written is taken
+data-taken : (c : Cursor) (l : List ℕ) → dataGood (c .kind) l ≡ true → taken c l ≡ true
+unfolding taken
+data-taken c l h = eq-eqb _ _ (sym (data-fits (c .kind) l (length (dataBytes l)) h (omega (arith, data-length l))))
+
 -- the lines of an event
 module _ (c : Cursor) (done : List Event) where
   tick-line : (l : List ℕ) (n : ℕ) → numberUnder (ascii "tick=") l ≡ Given n → gatherLine (gathered (dueOf c tickDue) done) l ≡ gathered (tickRead c n) done
@@ -93,8 +103,8 @@ module _ (c : Cursor) (done : List Event) where
 
   data-line : (l : List ℕ) (n k : ℕ) (bs : List ℕ) → dataGood k l ≡ true → dataBytes l ≡ bs
       → gatherLine (gathered (kindRead (tickRead c n) k) done) l ≡ gathered (dueOf (kindRead (tickRead c n) k) tickDue) (done ++ (event n k bs ∷ []))
-  unfolding gatherLine
-  data-line l n k bs h b = rw (h, b) refl
+  unfolding gatherLine behindData
+  data-line l n k bs h b = rw (data-taken (kindRead (tickRead c n) k) l h, b) refl
 
   event-gathered : (e : Event) → Good e → (rest : List ℕ)
       → gatherLines (gathered (dueOf c tickDue) done) (linesOf (eventText (e .tick) (e .kind) (e .bytes) ++ rest))

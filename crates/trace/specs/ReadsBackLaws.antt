@@ -15,8 +15,8 @@ use Rattle.common.specs.Order.{first}
 use Rattle.text.specs.Ascii.{ascii}
 use Rattle.text.specs.Decimal.{decimalOf, Digits, nil, digit}
 use Rattle.text.specs.Laws.{decimal-single, decimal-some, decimal-value, decimal-digits, decimal-first}
-use Rattle.trace.specs.declared.reading.Value.the-variants.{Given}
-use Rattle.trace.specs.declared.reading.Pair.the-variants.{Both}
+use Rattle.trace.specs.declared.Value.the-variants.{Given}
+use Rattle.trace.specs.declared.Pair.the-variants.{Both}
 use Rattle.trace.specs.Hex.{isHex, hexValue, allHex, hexGood, hexBytes, hexDigit, hexText}
 use Rattle.trace.specs.Kinds.{kindOf, kindText, isKind, carries}
 use Rattle.trace.specs.Lines.{upTo, past, atFront, linesOf}

@@ -12,7 +12,7 @@ use lib.Dec.{eqb}
 use Rattle.common.specs.Facts.{lt-or-ge, bool, clash, not-so}
 use Rattle.common.specs.Order.{first-skip, first-none}
 use Rattle.text.specs.Ascii.{ascii}
-use Rattle.trace.specs.declared.reading.Value.the-variants.{Bad, Given}
+use Rattle.trace.specs.declared.Value.the-variants.{Bad, Given}
 use Rattle.trace.specs.Words.{same, startsWith}
 use Rattle.trace.specs.Numbers.{numberUnder}
 use Rattle.trace.specs.Kinds.{kindOf}
@@ -22,7 +22,7 @@ unfolding same
 same-refl [] = refl
 same-refl (x ∷ xs) = rw (eq-eqb x x refl) (same-refl xs)
 
-pub same-true : (a b : List ℕ) → same a b ≡ true → a ≡ b
+same-true : (a b : List ℕ) → same a b ≡ true → a ≡ b
 unfolding same
 same-true [] [] h = refl
 same-true [] (y ∷ ys) h = clash false h refl

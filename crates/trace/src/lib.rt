@@ -1,8 +1,8 @@
-// A counter's morning as text (document 02, W1): four head lines, then three lines for each event. Lines are read one at a time, with a cursor by
-// value between them, and written into lent buffers. Nothing here knows an endpoint.
-pub mod data;
-pub mod reading;
-pub mod writing;
+// A counter's morning as text (document 02, W1): four head lines, then three lines for each event. Here stand the numbers of it, what a reader keeps
+// between two lines, and in specs/ what a trace reads as and is written as. `trace_reading` and `trace_data` read one, line by line, and
+// `trace_writing` writes one into lent buffers. Nothing here knows an endpoint.
+ghost use mathlib.Core.Path.{_≡_};
+ghost use Rattle.trace.specs.Kinds.{carries};
 
 // The first line, which the reader compares and the writer writes, and the second.
 pub const FORMAT: [u8; 20] = *b"format=counter-trace";
@@ -63,4 +63,28 @@ pub struct Cursor {
     pub tick: u32,
     // The kind of the event that is being read, or of the last.
     pub kind: u8,
+}
+
+// A number as it was written.
+pub enum Value {
+    // Badly written.
+    Bad,
+    Given(u32),
+}
+
+// Two numbers as they were written.
+pub enum Pair {
+    // Badly written.
+    Bad,
+    Both(u32, u32),
+}
+
+// Does an event of this kind have data?
+pub fn has_data(kind: u8) -> bool
+    ensures { λ r. ⌜ r ≡ carries kind ⌝ }
+{
+    if kind == IN {
+        return true;
+    }
+    kind == SEND
 }

@@ -6,8 +6,8 @@ use borrow.Author.Needs.{needs}
 use Rattle.endpoint.proofs.open.Statement.{statement}
 use Rattle.endpoint.proofs.open.Tie as tie
 
-out-of-range-requires : tie.Need-out-of-range-requires
-out-of-range-requires c κs = search needs
+open-answer-requires : tie.Need-open-answer-requires
+open-answer-requires c κs = search needs
 
 opened-requires : tie.Need-opened-requires
 opened-requires c κs = search needs
@@ -16,13 +16,13 @@ opened-requires-2 : tie.Need-opened-requires-2
 opened-requires-2 c κs = search needs
 
 returns : tie.Need-returns
-returns c = refused _ _ _ _ _ (sym (c .before .before .before .out-of-range .ensures) ∙ c .before .before .if1 .taken) (c .before .opened .ensures) (c .opened2 .ensures)
+returns c = refused _ _ _ _ _ _ (c .before .before .before .open-answer .ensures) (c .before .before .if1 .taken) (c .before .opened .ensures) (c .opened2 .ensures)
 
 cast-data : tie.Need-cast-data
-cast-data c = let f = firsts-fit _ _ _ (sym (c .before .out-of-range .ensures) ∙ c .if1 .left) .0 in omega arith
+cast-data c = let f = firsts-fit _ _ _ (sym (c .if1 .left) ∙ c .before .open-answer .ensures) .0 in omega arith
 
 cast-channel : tie.Need-cast-channel
-cast-channel c = let f = firsts-fit _ _ _ (sym (c .before .out-of-range .ensures) ∙ c .if1 .left) .1 in omega arith
+cast-channel c = let f = firsts-fit _ _ _ (sym (c .if1 .left) ∙ c .before .open-answer .ensures) .1 in omega arith
 
 opened-requires-3 : tie.Need-opened-requires-3
 opened-requires-3 c κs = search needs
@@ -31,13 +31,13 @@ opened-requires-4 : tie.Need-opened-requires-4
 opened-requires-4 c κs = search needs
 
 returns-2 : tie.Need-returns-2
-returns-2 c = opens _ _ _ _ _ (sym (c .before .before .before .out-of-range .ensures) ∙ c .before .before .if1 .left) (c .before .opened3 .ensures) (c .opened4 .ensures)
+returns-2 c = opens _ _ _ _ _ _ (c .before .before .before .open-answer .ensures) (c .before .before .if1 .left) (c .before .opened3 .ensures) (c .opened4 .ensures)
 
 pub open-spec : {M : Type 1} → statement M
 open-spec =
     tie.close
     (tie.spec
-    out-of-range-requires
+    open-answer-requires
     opened-requires
     opened-requires-2
     returns

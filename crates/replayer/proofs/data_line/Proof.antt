@@ -18,8 +18,8 @@ read-requires c κs = search needs
 enum-told : tie.Need-enum-told
 enum-told c = search needs
 
-waiting-requires : tie.Need-waiting-requires
-waiting-requires c κs = search needs
+behind-data-requires : tie.Need-behind-data-requires
+behind-data-requires c κs = search needs
 
 enum-known-n : tie.Need-enum-known-n
 enum-known-n c = search needs
@@ -36,11 +36,11 @@ call-requires c κs = search needs
 answer-line-requires : tie.Need-answer-line-requires
 answer-line-requires c κs = c .before .before .before .before .before .before .before .before .before .before .before .before .before .before .before .before .before .before .before .before .before .before .before .pre .0
 
-waiting-requires-2 : tie.Need-waiting-requires-2
-waiting-requires-2 c κs = search needs
+behind-data-requires-2 : tie.Need-behind-data-requires-2
+behind-data-requires-2 c κs = search needs
 
 returns : tie.Need-returns
-returns c = line-refused (c .before .before .before .before .before .before .before .before .before .before .before .before .before .args .s) _ _ _ _ _ _ (c .before .before .before .before .before .before .before .before .before .before .before .before .before .pre .2) (data-refused _ _ _ (omega (arith, length-replicate {A = ℕ} 32768 0)) (c .before .before .before .before .before .before .before .before .before .before .before .before .before .pre .1) (sym (c .before .enum-told .given .1) ∙ c .before .before .before .before .read .ensures .0)) (c .waiting .ensures)
+returns c = line-refused (c .before .before .before .before .before .before .before .before .before .before .before .before .before .args .s) _ _ _ _ _ _ (c .before .before .before .before .before .before .before .before .before .before .before .before .before .pre .2) (data-refused _ _ _ (omega (arith, length-replicate {A = ℕ} 32768 0)) (c .before .before .before .before .before .before .before .before .before .before .before .before .before .pre .1) (sym (c .before .enum-told .given .1) ∙ c .before .before .before .before .read .ensures .0)) (c .behind-data .ensures)
 
 same-length : tie.Need-same-length
 same-length c = search needs
@@ -52,7 +52,7 @@ same-length-3 : tie.Need-same-length-3
 same-length-3 c = search needs
 
 returns-2 : tie.Need-returns-2
-returns-2 c = line-called (c .before .before .before .before .before .before .before .before .before .before .before .before .before .before .before .before .before .before .before .before .before .before .before .before .before .before .before .before .before .args .s) _ _ _ _ _ _ _ _ _ _ _ _ (c .before .before .before .before .before .before .before .before .before .before .before .before .before .before .before .before .before .before .before .before .before .before .before .before .before .before .before .before .before .pre .2) (data-wrote _ _ _ (omega (arith, length-replicate {A = ℕ} 32768 0)) (c .before .before .before .before .before .before .before .before .before .before .before .before .before .before .before .before .before .before .before .before .before .before .before .before .before .before .before .before .before .pre .1) (sym (c .before .before .before .before .before .before .before .before .before .before .before .before .before .before .before .before .before .n .given .1) ∙ c .before .before .before .before .before .before .before .before .before .before .before .before .before .before .before .before .before .before .before .before .read .ensures .0)) (c .waiting2 .ensures) (data-taken _ _ _ (omega (arith, length-replicate {A = ℕ} 32768 0)) (c .before .before .before .before .before .before .before .before .before .before .before .before .before .before .before .before .before .before .before .before .before .before .before .before .before .before .before .before .before .pre .1) _ (sym (c .before .before .before .before .before .before .before .before .before .before .before .before .before .before .before .before .before .n .given .1) ∙ c .before .before .before .before .before .before .before .before .before .before .before .before .before .before .before .before .before .before .before .before .read .ensures .0) (c .before .before .before .before .before .before .before .before .before .before .before .before .before .before .before .before .before .before .before .before .read .ensures .1)) (c .before .before .before .before .before .before .before .before .before .before .before .before .call .ensures) (c .before .before .before .before .before .answer-line .ensures)
+returns-2 c = line-called (c .before .before .before .before .before .before .before .before .before .before .before .before .before .before .before .before .before .before .before .before .before .before .before .before .before .before .before .before .before .args .s) _ _ _ _ _ _ _ _ _ _ _ _ (c .before .before .before .before .before .before .before .before .before .before .before .before .before .before .before .before .before .before .before .before .before .before .before .before .before .before .before .before .before .pre .2) (data-wrote _ _ _ (omega (arith, length-replicate {A = ℕ} 32768 0)) (c .before .before .before .before .before .before .before .before .before .before .before .before .before .before .before .before .before .before .before .before .before .before .before .before .before .before .before .before .before .pre .1) (sym (c .before .before .before .before .before .before .before .before .before .before .before .before .before .before .before .before .before .n .given .1) ∙ c .before .before .before .before .before .before .before .before .before .before .before .before .before .before .before .before .before .before .before .before .read .ensures .0)) (c .behind-data2 .ensures) (data-taken _ _ _ (omega (arith, length-replicate {A = ℕ} 32768 0)) (c .before .before .before .before .before .before .before .before .before .before .before .before .before .before .before .before .before .before .before .before .before .before .before .before .before .before .before .before .before .pre .1) _ (sym (c .before .before .before .before .before .before .before .before .before .before .before .before .before .before .before .before .before .n .given .1) ∙ c .before .before .before .before .before .before .before .before .before .before .before .before .before .before .before .before .before .before .before .before .read .ensures .0) (c .before .before .before .before .before .before .before .before .before .before .before .before .before .before .before .before .before .before .before .before .read .ensures .1)) (c .before .before .before .before .before .before .before .before .before .before .before .before .call .ensures) (c .before .before .before .before .before .answer-line .ensures)
 
 pub data-line-spec : {M : Type 1} → statement M
 data-line-spec =
@@ -61,13 +61,13 @@ data-line-spec =
     slice-aggregate-read
     read-requires
     enum-told
-    waiting-requires
+    behind-data-requires
     enum-known-n
     array-share-prefix-bytes
     slice-aggregate-call
     call-requires
     answer-line-requires
-    waiting-requires-2
+    behind-data-requires-2
     returns
     same-length
     same-length-2

@@ -1,0 +1,161 @@
+// Writing a trace, so that a host can record a morning: the head, then each event as it happens.
+ghost use mathlib.Core.Path.{_≡_};
+ghost use mathlib.Core.List.{_++_};
+ghost use Prim.Native.Nat.{_+_, _≤_, _<_};
+ghost use lib.ListN.{length};
+ghost use Rattle.common.specs.Answer.{writtenOf, leftOf, roomAnswer};
+ghost use Rattle.common.specs.Laid.{Laid};
+ghost use Rattle.text.specs.Ascii.{ascii};
+ghost use Rattle.text.specs.Within.{LaidWithin};
+ghost use Rattle.trace.specs.Hex.{hexDigit, hexText};
+ghost use Rattle.trace.specs.Kinds.{kindText};
+ghost use Rattle.trace.specs.Write.{headText, leadText, eventText, eventGood, eventAnswer};
+use common::Written;
+
+// The two lines that are always the same.
+fn fixed_lines(out: &mut [u8]) -> usize
+    requires { ⌜ 31 ≤ length (now out) ⌝ }
+    ensures { λ r. ⌜ LaidWithin 31 (ascii "format=counter-trace\nedition=1\n") (now (out .entry)) 0 (now (out .exit)) r ⌝ }
+{
+    let at1 = common::lay(out, 0, &trace::FORMAT);
+    let at2 = common::lay(out, at1, b"\n");
+    let at3 = common::lay(out, at2, &trace::EDITION);
+    common::lay(out, at3, b"\n")
+}
+
+// The four lines of the head.
+fn head_lines(out: &mut [u8], firstdata: u32, firstchannel: u32, timeout: u32) -> usize
+    requires { ⌜ 108 ≤ length (now out) ⌝ }
+    ensures { λ r. ⌜ LaidWithin 108 (headText firstdata firstchannel timeout) (now (out .entry)) 0 (now (out .exit)) r ⌝ }
+{
+    let at1 = fixed_lines(out);
+    let at2 = text::field(out, at1, b"first=", firstdata as u64, b",");
+    let at3 = text::field(out, at2, b"", firstchannel as u64, b"\n");
+    text::field(out, at3, b"timeout=", timeout as u64, b"\n")
+}
+
+// Writes the head of a trace: the two first numbers and the loss timeout that the endpoint was opened with. Refused with 14; 108 bytes always suffice.
+pub fn head(firstdata: u32, firstchannel: u32, timeout: u32, out: &mut [u8]) -> Written
+    ensures answer { λ r. ⌜ r ≡ writtenOf (roomAnswer (headText firstdata firstchannel timeout) (length (now (out .entry)))) (headText firstdata firstchannel timeout) ⌝ }
+    ensures bytes { λ r. ⌜ now (out .exit) ≡ leftOf (roomAnswer (headText firstdata firstchannel timeout) (length (now (out .entry)))) (headText firstdata firstchannel timeout) (now (out .entry)) ⌝ }
+    ensures bound { λ r. ⌜ length (headText firstdata firstchannel timeout) ≤ 108 ⌝ }
+{
+    let mut text = [0u8; 108];
+    let n = head_lines(&mut text, firstdata, firstchannel, timeout);
+    if out.len() < n {
+        return Written::Refused(14);
+    }
+    common::put(out, 0, &text[..n]);
+    Written::Wrote(n)
+}
+
+// The word of a kind.
+fn kind_word(out: &mut [u8], at: usize, kind: u8) -> usize
+    requires { ⌜ at + 6 ≤ length (now out) ⌝ }
+    ensures { λ r. ⌜ LaidWithin 6 (kindText kind) (now (out .entry)) at (now (out .exit)) r ⌝ }
+{
+    if kind == trace::IN {
+        return common::lay(out, at, b"in");
+    }
+    if kind == trace::SEND {
+        return common::lay(out, at, b"send");
+    }
+    if kind == trace::RESEND {
+        return common::lay(out, at, b"resend");
+    }
+    if kind == trace::TAKE {
+        return common::lay(out, at, b"take");
+    }
+    if kind == trace::SWEEP {
+        return common::lay(out, at, b"sweep");
+    }
+    common::lay(out, at, b"ack")
+}
+
+// An event's lines up to its bytes.
+fn lead_lines(out: &mut [u8], tick: u32, kind: u8) -> usize
+    requires { ⌜ 43 ≤ length (now out) ⌝ }
+    ensures { λ r. ⌜ LaidWithin 43 (leadText tick kind) (now (out .entry)) 0 (now (out .exit)) r ⌝ }
+{
+    let at1 = text::field(out, 0, b"tick=", tick as u64, b"\n");
+    let at2 = common::lay(out, at1, b"kind=");
+    let at3 = kind_word(out, at2, kind);
+    common::lay(out, at3, b"\ndata=")
+}
+
+// The hex digit of a value below 16.
+fn digit_of(v: u8) -> u8
+    requires { ⌜ v < 16 ⌝ }
+    ensures { λ r. ⌜ r ≡ hexDigit v ⌝ }
+{
+    if v < 10 {
+        return 48 + v;
+    }
+    87 + v
+}
+
+// Bytes as text, from place at on.
+fn hex_text(out: &mut [u8], at: usize, bytes: &[u8]) -> usize
+    requires { ⌜ at + (length (now bytes) + length (now bytes)) ≤ length (now out) ⌝ }
+    ensures { λ r. ⌜ Laid (now (out .entry)) at (hexText (now (bytes .entry))) (now (out .exit)) r ⌝ }
+{
+    let mut to = at;
+    let mut i = 0;
+    while i < bytes.len() {
+        let b = bytes[i];
+        out[to] = digit_of(b / 16);
+        out[to + 1] = digit_of(b % 16);
+        to += 2;
+        i += 1;
+    }
+    to
+}
+
+// Can an event of this kind with so many bytes be written?
+fn writable(kind: u8, size: usize) -> bool
+    ensures { λ r. ⌜ r ≡ eventGood kind size ⌝ }
+{
+    if kind < trace::IN {
+        return false;
+    }
+    if trace::ACK < kind {
+        return false;
+    }
+    if trace::has_data(kind) {
+        return true;
+    }
+    size == 0
+}
+
+// An event's lines, where they fit.
+fn event_lines(out: &mut [u8], lead: &[u8], bytes: &[u8]) -> usize
+    requires { ⌜ length (now lead) + (length (now bytes) + length (now bytes)) + 1 ≤ length (now out) ⌝ }
+    ensures { λ r. ⌜ Laid (now (out .entry)) 0 (now (lead .entry) ++ (hexText (now (bytes .entry)) ++ ascii "\n")) (now (out .exit)) r ⌝ }
+{
+    let at1 = common::lay(out, 0, lead);
+    let at2 = hex_text(out, at1, bytes);
+    common::lay(out, at2, b"\n")
+}
+
+// Writes one event. Refused with 16 for a kind that is none of the six, or bytes on a kind that has none, then with 14; 44 bytes and two for each of
+// its bytes always suffice.
+pub fn event(tick: u32, kind: u8, bytes: &[u8], out: &mut [u8]) -> Written
+    ensures answer { λ r. ⌜ r ≡ writtenOf (eventAnswer tick kind (now (bytes .entry)) (length (now (out .entry)))) (eventText tick kind (now (bytes .entry))) ⌝ }
+    ensures bytes { λ r. ⌜ now (out .exit) ≡ leftOf (eventAnswer tick kind (now (bytes .entry)) (length (now (out .entry)))) (eventText tick kind (now (bytes .entry))) (now (out .entry)) ⌝ }
+    ensures bound { λ r. ⌜ length (eventText tick kind (now (bytes .entry))) ≤ 44 + (length (now (bytes .entry)) + length (now (bytes .entry))) ⌝ }
+{
+    if !writable(kind, bytes.len()) {
+        return Written::Refused(16);
+    }
+    let mut lead = [0u8; 43];
+    let n = lead_lines(&mut lead, tick, kind);
+    if out.len() < n + 1 {
+        return Written::Refused(14);
+    }
+    // Half of what is left over, so that nothing is doubled past the range.
+    if (out.len() - n - 1) / 2 < bytes.len() {
+        return Written::Refused(14);
+    }
+    let k = event_lines(out, &lead[..n], bytes);
+    Written::Wrote(k)
+}
