@@ -11,6 +11,7 @@ use lib.Seq.{getD-set-same, getD-set-other}
 use lib.Dec.{leb, eqb}
 use borrow.Author.Tests.{le-leb, lt-leb, leb-true, leb-false, eq-eqb, ne-eqb, eqb-true, eqb-false}
 use Rattle.common.specs.Facts.{bool, clash, lt-or-ge}
+use Rattle.wire.specs.Flags.{both, either}
 use Rattle.window.specs.Places.{place-same}
 use Rattle.sender.specs.Acknowledge.{namesUnsent}
 use Rattle.acknowledging.specs.Walk.{walkOf}
@@ -25,12 +26,6 @@ walk-never (t ∷ ts) n next low flags =
 -- the state that some states from n on give number m
 abbrev pub stateAt : List Bool → ℕ → ℕ → Bool
 stateAt ts n m = cond (leb n m) (getD ts (m - n) false) false
-
-abbrev either : Bool → Bool → Bool
-either a b = cond a true b
-
-abbrev both : Bool → Bool → Bool
-both a b = cond a b false
 
 either-no : (a : Bool) → either a false ≡ a
 either-no true = refl

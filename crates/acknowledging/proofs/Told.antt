@@ -5,7 +5,7 @@ use mathlib.Core.List.{List, [], _∷_}
 use mathlib.Core.Logic.{⊎-elim}
 use mathlib.Core.Path.{_≡_, refl, sym, _∙_, ap, subst}
 use native.Mathlib.Omega.{arith}
-use lib.ListN.{length, getD, replicate, length-replicate}
+use lib.ListN.{length, replicate, length-replicate}
 use lib.Dec.{leb, ltb, eqb}
 use borrow.Author.Tests.{le-leb, lt-leb, lt-ltb, le-ltb}
 use Rattle.common.specs.Facts.{lt-or-ge}
@@ -48,7 +48,7 @@ up-to m n =
     chosen-below (m + 1) n
     ∙ ⊎-elim (λ l. lt-ltb n (m + 1) l ∙ sym (le-leb n m (omega arith))) (λ g. le-ltb n (m + 1) g ∙ sym (lt-leb n m (omega arith))) (lt-or-ge n (m + 1))
 
-pub silent-right : (s : Sender) → consistentOf 32 32 s ≡ true → Right s silent (nothing 32 0)
+silent-right : (s : Sender) → consistentOf 32 32 s ≡ true → Right s silent (nothing 32 0)
 unfolding toldAnswer toldOf appliedOf
 silent-right s h =
     let f = consistent-facts 32 32 s (omega arith) (omega arith) h in
@@ -71,7 +71,7 @@ two-applied s x true c j h = refl
 two-applied s x false true j h = refl
 two-applied s x false false j h = h refl
 
-pub up-to-right : (s : Sender) (a : Widened) → Right s (upTo a) (judgeUpTo 32 (s .firstdata .0) (s .next .0) a)
+up-to-right : (s : Sender) (a : Widened) → Right s (upTo a) (judgeUpTo 32 (s .firstdata .0) (s .next .0) a)
 unfolding toldAnswer toldOf toldNames appliedOf judgeUpTo acknowledgedOf first
 up-to-right s (Below m) = record { answer = refl; applied = refl }
 up-to-right s (At m) =
@@ -91,7 +91,7 @@ walk-chooses s m v h un n l u =
     (consistent-facts 32 32 s (omega arith) (omega arith) h .bounds .room) un n l u
     ∙ ap (λ (b : Bool). cond b true (stateAt (statesOf v) m n)) (always 32 (n % 32) false)
 
-pub listed-right : (s : Sender) (a : Widened) (v : List ℕ) → consistentOf 32 32 s ≡ true → Right s (listed a v) (judgeListed 32 (s .firstdata .0) (s .low .0) (s .next .0) a v)
+listed-right : (s : Sender) (a : Widened) (v : List ℕ) → consistentOf 32 32 s ≡ true → Right s (listed a v) (judgeListed 32 (s .firstdata .0) (s .low .0) (s .next .0) a v)
 unfolding toldAnswer toldOf toldNames appliedOf judgeListed fromWalk acknowledgedOf first
 listed-right s (Below m) v h = record { answer = refl; applied = refl }
 listed-right s (At m) v h =

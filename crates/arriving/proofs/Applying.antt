@@ -8,7 +8,7 @@ use lib.Seq.{set-getD}
 use borrow.Author.Tests.{lt-ltb, le-ltb, eq-eqb, ne-eqb}
 use Rattle.common.specs.Put.{putOf}
 use Rattle.window.specs.Store.{storePlace}
-use Rattle.wire.specs.declared.Packet.{Packet as Taken}
+use Rattle.wire.specs.declared.Packet.{Packet as WirePacket}
 use Rattle.wire.specs.Same.{bodyIn}
 use Rattle.window.specs.Window.{Win, lifted, slid}
 use Rattle.receiver.specs.declared.Hold.{Hold}
@@ -65,7 +65,7 @@ module _ (w : ℕ) (r : Receiver) (c at : ℕ) (h : Hold) (place : at ≡ c % w)
       go true q = rw (q, place) refl
       go false q = rw (q, here) (set-getD (r .holds) at empty)
 
-module _ (w : ℕ) (r : Receiver) (s d : List ℕ) (p : Taken) (a : Arrived) (judged : a ≡ judgedOf w r (p .values)) where
+module _ (w : ℕ) (r : Receiver) (s d : List ℕ) (p : WirePacket) (a : Arrived) (judged : a ≡ judgedOf w r (p .values)) where
   applied : (x : Arrived) → a ≡ x → leftBy w (state r s) (bodyIn d p) x ≡ valuesOf w (state r s) d p
   applied x e = ap (leftBy w (state r s) (bodyIn d p)) (sym e ∙ judged) ∙ judged-leaves w (state r s) d p
 

@@ -4,7 +4,7 @@ use mathlib.Core.Bool.{Bool, true, false}
 use mathlib.Core.List.{List}
 use mathlib.Core.Path.{_≡_, refl, sym, _∙_, ap}
 use lib.ListN.{length}
-use Rattle.wire.specs.declared.Packet.{Packet as Taken}
+use Rattle.wire.specs.declared.Packet.{Packet as WirePacket}
 use Rattle.wire.specs.declared.Reading.{Reading}
 use Rattle.wire.specs.declared.Reading.the-variants.{Refused, Dummy, Read}
 use Rattle.wire.specs.Read.{readOf}
@@ -46,7 +46,7 @@ module _ (w cap : ℕ) (r : Receiver) (s d : List ℕ) (b : Bool) (sound : b ≡
     unfolding readAnswer readInto
     receive-dummy e = parts 0 r s (rw e refl) (rw e refl)
 
-    pub receive-read : (p : Taken) (a : Arrived) (n : ℕ) (q : Receiver) (left : List ℕ) → x ≡ Read p → a ≡ judgedOf w r (p .values) → n ≡ numberOf a
+    pub receive-read : (p : WirePacket) (a : Arrived) (n : ℕ) (q : Receiver) (left : List ℕ) → x ≡ Read p → a ≡ judgedOf w r (p .values) → n ≡ numberOf a
         → q ≡ valuesOf w (state r s) d p .receiver → left ≡ valuesOf w (state r s) d p .store → Gives w cap r s d n q left
     unfolding readAnswer readInto
     receive-read p a n q left e j k y z =

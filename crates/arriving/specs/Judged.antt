@@ -7,7 +7,7 @@ use mathlib.Core.Path.{_≡_, refl, sym, _∙_, ap}
 use lib.Dec.{eqb, ltb}
 use Rattle.common.specs.Order.{Test, test, first}
 use Rattle.numbers.specs.Full.{highest}
-use Rattle.wire.specs.declared.Packet.{Packet as Taken}
+use Rattle.wire.specs.declared.Packet.{Packet as WirePacket}
 use Rattle.wire.specs.declared.Values.{Values}
 use Rattle.wire.specs.Flags.{dataIn, aoaIn}
 use Rattle.wire.specs.Same.{bodyIn}
@@ -65,7 +65,7 @@ judged-number w r (some (waiver v)) = sevens (test (ltb highest v) 7 ∷ []) (Wa
 judged-number w r (some (content p)) =
     sevens (numberTests w (r .base .0) (r .due .0) (waived (p .aoa)) (p .number) (p .channel)) (numbersIn (content p)) (refl, (refl, (refl, (refl, (refl, refl))))) refl
 
-pub judged-answer : (w : ℕ) (r : Receiver) (d : List ℕ) (p : Taken) → numberOf (judgedOf w r (p .values)) ≡ valuesAnswer w r d p
+pub judged-answer : (w : ℕ) (r : Receiver) (d : List ℕ) (p : WirePacket) → numberOf (judgedOf w r (p .values)) ≡ valuesAnswer w r d p
 unfolding judgedOf valuesAnswer
 judged-answer w r d p =
     ap numberOf
@@ -109,7 +109,7 @@ arrives-left w s false a n c none true block = refl
 arrives-left w s false a n c (some v) true block = waiver-left w s v block
 arrives-left w s false a n c v false block = refl
 
-pub judged-leaves : (w : ℕ) (s : State) (d : List ℕ) (p : Taken)
+pub judged-leaves : (w : ℕ) (s : State) (d : List ℕ) (p : WirePacket)
     → leftBy w s (bodyIn d p) (judgedOf w (s .receiver) (p .values)) ≡ valuesOf w s d p
 unfolding judgedOf valuesOf
 judged-leaves w s d p =

@@ -53,7 +53,7 @@ pub fn call(
         };
     }
     // As long as the longest datagram; no block is longer.
-    let mut out = [0u8; wire::LONGEST];
+    let mut out = [0u8; wire::LONGEST_DATAGRAM];
     if kind == trace::SEND {
         let x = sending::send(s, sent, tick, bytes, &mut out);
         let sender = x.sender;

@@ -65,10 +65,10 @@ some-from p (suc n) i l h =
     (bool (p n))
 
 -- A count of 0 has none.
-pub none-at : (p : ℕ → Bool) (n : ℕ) → countBelow p n ≡ 0 → (i : ℕ) → i < n → p i ≡ false
+none-at : (p : ℕ → Bool) (n : ℕ) → countBelow p n ≡ 0 → (i : ℕ) → i < n → p i ≡ false
 none-at p n h i l = not-so (p i) (λ t. omega (arith, some-from p n i l t))
 
-pub none-from : (p : ℕ → Bool) (n : ℕ) → ((i : ℕ) → i < n → p i ≡ false) → countBelow p n ≡ 0
+none-from : (p : ℕ → Bool) (n : ℕ) → ((i : ℕ) → i < n → p i ≡ false) → countBelow p n ≡ 0
 none-from p zero h = count-zero p
 none-from p (suc n) h = count-no p n (h n (omega arith)) ∙ none-from p n (λ i l. h i (omega arith))
 

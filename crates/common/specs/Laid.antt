@@ -1,6 +1,6 @@
 -- One run of bytes laid over a buffer, and runs laid one after the other.
 use Prim.Native.Nat.{ℕ, _+_, _≤_}
-use mathlib.Core.List.{List, [], _∷_, _++_, append-nil}
+use mathlib.Core.List.{List, [], _∷_, _++_}
 use mathlib.Core.Path.{_≡_, sym, _∙_, ap}
 use native.Mathlib.Omega.{arith}
 use native.Mathlib.Nat.{add-zero, add-assoc}
@@ -21,13 +21,6 @@ laid-then {d} {at} {a} {e} {r} {b} {f} {s} h x y =
     record {
       bytes = y .bytes ∙ ap (λ (l : List ℕ). putOf l r b) (x .bytes) ∙ ap (λ (n : ℕ). putOf (putOf d at a) n b) (x .next) ∙ put-put d at a b h;
       next = y .next ∙ ap (λ (n : ℕ). n + length b) (x .next) ∙ add-assoc at (length a) (length b) ∙ ap (λ (n : ℕ). at + n) (sym (length-append a b));
-    }
-
-pub laid-last : {d : List ℕ} {at : ℕ} {a e : List ℕ} {r : ℕ} → Laid d at a e r → Laid d at (a ++ []) e r
-laid-last {d} {at} {a} {e} {r} x =
-    record {
-      bytes = x .bytes ∙ ap (putOf d at) (sym (append-nil a));
-      next = x .next ∙ ap (λ (l : List ℕ). at + length l) (sym (append-nil a));
     }
 
 -- the same bytes by another name

@@ -23,7 +23,7 @@ use Rattle.sender.specs.AnyOrder as alone
 use Rattle.endpoint.specs.Receive.{Halves, receiverOf, soundOf, receiveAnswer}
 use Rattle.endpoint.specs.Calls.{Endpoint, Call, receives, callsOf}
 use Rattle.endpoint.specs.History.{OnlyAck, NoAck, Between, nothing, tells, after, handed, handedBy}
-use Rattle.endpoint.specs.Steps.{joined, sound-halves, ack-answer, no-ack-answer}
+use Rattle.endpoint.specs.Steps.{paired, sound-halves, ack-answer, no-ack-answer}
 use Rattle.endpoint.specs.Follows.{with, both, after-is, handed-is, between-plain, between-acks, between-is, between-hands, run-sound}
 
 -- some datagram of the list reads, is accepted at the outset, and names number n
@@ -59,7 +59,7 @@ module _ (w cap : ℕ) (lw : 0 < w) (uw : w ≤ cap) (e : Endpoint) (h : soundOf
     pub answered-alike : (d : List ℕ) → OnlyAck d → receiveAnswer w cap (callsOf w cap e cs .halves) d ≡ receiveAnswer w cap (e .halves) d
     answered-alike d o =
         ap (λ (x : Endpoint). receiveAnswer w cap (x .halves) d) same
-        ∙ ack-answer w cap (joined (run w cap (e .halves .sender) ds) (runOf w cap (receiverOf (e .halves)) es)) d o
+        ∙ ack-answer w cap (paired (run w cap (e .halves .sender) ds) (runOf w cap (receiverOf (e .halves)) es)) d o
         (run-sound w cap lw uw (receiverOf (e .halves)) es receiver-sound)
         ∙ alone.answered-alike w cap lw uw (e .halves .sender) sender-sound ds d
         ∙ sym (ack-answer w cap (e .halves) d o receiver-sound)
@@ -72,7 +72,7 @@ module _ (w cap : ℕ) (lw : 0 < w) (uw : w ≤ cap) (e : Endpoint) (h : soundOf
     pub others-alone : (d : List ℕ) → NoAck d → receiveAnswer w cap (callsOf w cap e cs .halves) d ≡ receiveAnswer w cap (after w cap e es .halves) d
     others-alone d o =
         ap (λ (x : Endpoint). receiveAnswer w cap (x .halves) d) same
-        ∙ no-ack-answer w cap (joined (run w cap (e .halves .sender) ds) (runOf w cap (receiverOf (e .halves)) es)) d o
+        ∙ no-ack-answer w cap (paired (run w cap (e .halves .sender) ds) (runOf w cap (receiverOf (e .halves)) es)) d o
         (alone.end-consistent w cap lw uw (e .halves .sender) sender-sound ds)
         ∙ sym (no-ack-answer w cap (with e (runOf w cap (receiverOf (e .halves)) es) .halves) d o sender-sound)
         ∙ sym (ap (λ (x : Endpoint). receiveAnswer w cap (x .halves) d) apart)

@@ -18,7 +18,7 @@ use Rattle.sender.specs.Consistent as senderTests
 use Rattle.endpoint.specs.Receive.{receiverOf, receiveAnswer}
 use Rattle.endpoint.specs.Calls.{Endpoint}
 use Rattle.endpoint.specs.History.{OnlyData, after, handed}
-use Rattle.endpoint.specs.Steps.{joined, data-no-ack, no-ack-answer}
+use Rattle.endpoint.specs.Steps.{paired, data-no-ack, no-ack-answer}
 use Rattle.endpoint.specs.Follows.{with, Plain, after-is, handed-is}
 
 module _ (w cap : ℕ) (e : Endpoint) (ds : List (List ℕ)) (set : Set w cap (receiverOf (e .halves)) ds)
@@ -34,7 +34,7 @@ module _ (w cap : ℕ) (e : Endpoint) (ds : List (List ℕ)) (set : Set w cap (r
   pub all-accepted : (es : List Event) → From ds es → (d : List ℕ) → In d ds → receiveAnswer w cap (after w cap e es .halves) d ≡ 0
   all-accepted es from d i =
       ap (λ (x : Endpoint). receiveAnswer w cap (x .halves) d) (same es from)
-      ∙ no-ack-answer w cap (joined (e .halves .sender) (runOf w cap (receiverOf (e .halves)) es)) d (data-no-ack d (only d i)) s
+      ∙ no-ack-answer w cap (paired (e .halves .sender) (runOf w cap (receiverOf (e .halves)) es)) d (data-no-ack d (only d i)) s
       ∙ alone.all-accepted w cap (receiverOf (e .halves)) ds set es from d i
 
   -- At every moment the sender's half and its store are as at the outset.

@@ -1,6 +1,6 @@
 -- The premises of the endpoint's theorems can be met. A fresh endpoint is an outset for three datagrams of data, here in one history with a repeat and takes
 -- between; and one that has sent a block is an outset for an acknowledgement that is accepted and names it.
-use Prim.Native.Nat.{ℕ, _*_}
+use Prim.Native.Nat.{ℕ}
 use mathlib.Core.Bool.{true}
 use mathlib.Core.List.{List, [], _∷_, _++_, List·Memᴰ·head, List·Memᴰ·tail}
 use mathlib.Core.Logic.{inl, inr}
@@ -35,7 +35,7 @@ use Rattle.endpoint.specs.Calls.{Endpoint, receives, callsOf}
 use Rattle.endpoint.specs.Sound.{Sound}
 use Rattle.endpoint.specs.Fresh.{freshOf}
 use Rattle.endpoint.specs.History.{OnlyData, OnlyAck, after, handed, nothing, tells}
-use Rattle.endpoint.specs.Steps.{joined, halves-sound, ack-answer}
+use Rattle.endpoint.specs.Steps.{paired, halves-sound, ack-answer}
 use Rattle.endpoint.specs.StaysSound.{fresh-sound}
 use Rattle.endpoint.specs.AnyOrderOfData.{all-accepted, any-order-taken}
 use Rattle.endpoint.specs.AnyOrderOfAcknowledgements.{NamedBy, received-if}
@@ -105,7 +105,7 @@ two-handed =
 
 -- the sender's half has sent a block under number 0
 abbrev pub sentOne : Endpoint
-sentOne = record { halves = joined oneOut fresh; sent = outset .sent }
+sentOne = record { halves = paired oneOut fresh; sent = outset .sent }
 
 pub one-sound : soundOf 32 32 (sentOne .halves) ≡ true
 one-sound = halves-sound 32 32 (sentOne .halves) (one-consistent .0) (outset-sound .receiver)

@@ -17,11 +17,11 @@ use Rattle.sender.specs.StaysConsistent.{acknowledge-keeps}
 use Rattle.endpoint.specs.Receive.{Halves}
 use Rattle.endpoint.specs.Calls.{Endpoint, Call, receives, callOf, callsOf}
 use Rattle.endpoint.specs.History.{NoAck, OnlyAck, callFor, after, givenBy, handedBy, handed, Between, nothing, tells, brings, taken, written}
-use Rattle.endpoint.specs.Steps.{joined, no-ack-of, ack-of}
+use Rattle.endpoint.specs.Steps.{paired, no-ack-of, ack-of}
 
 -- the outset with its receiver's half in some state
 abbrev pub with : Endpoint → receiving.State → Endpoint
-with e r = record { halves = joined (e .halves .sender) r; sent = e .sent }
+with e r = record { halves = paired (e .halves .sender) r; sent = e .sent }
 
 -- none of the datagrams has an acknowledgement
 abbrev pub Plain : List (List ℕ) → Type 0
@@ -31,7 +31,7 @@ Plain ds = (d : List ℕ) → In d ds → NoAck d
 module _ (w cap : ℕ) (e : Endpoint) (s : senderTests.consistentOf w cap (e .halves .sender) ≡ true) where
   arrived : (r : receiving.State) (d : List ℕ) → NoAck d → callOf w cap (with e r) (callFor (arrives d)) ≡ with e (stepOf w cap r (arrives d))
   unfolding callOf
-  arrived r d only = ap (λ (h : Halves). record { halves = h; sent = e .sent }) (no-ack-of w cap (joined (e .halves .sender) r) d only s)
+  arrived r d only = ap (λ (h : Halves). record { halves = h; sent = e .sent }) (no-ack-of w cap (paired (e .halves .sender) r) d only s)
 
   pub after-is : (r : receiving.State) (es : List Event) → Plain (datagramsOf es) → after w cap (with e r) es ≡ with e (runOf w cap r es)
   unfolding callsOf callOf runOf datagramsOf
@@ -68,7 +68,7 @@ between-acks (written stamp gap room b) x m = between-acks b x m
 
 -- the halves in some states, with the sender's store
 abbrev pub both : List ℕ → Sender → receiving.State → Endpoint
-both sent s r = record { halves = joined s r; sent = sent }
+both sent s r = record { halves = paired s r; sent = sent }
 
 pub run-sound : (w cap : ℕ) → 0 < w → w ≤ cap → (r : receiving.State) (es : List Event) → receiverTests.soundOf w cap (r .receiver) (length (r .store)) ≡ true
     → receiverTests.soundOf w cap (runOf w cap r es .receiver) (length (runOf w cap r es .store)) ≡ true
@@ -81,7 +81,7 @@ module _ (w cap : ℕ) (lw : 0 < w) (uw : w ≤ cap) (sent : List ℕ) where
   told : (s : Sender) (r : receiving.State) (d : List ℕ) → OnlyAck d → receiverTests.soundOf w cap (r .receiver) (length (r .store)) ≡ true
       → callOf w cap (both sent s r) (receives d) ≡ both sent (acknowledgeOf w cap s d) r
   unfolding callOf
-  told s r d only h = ap (λ (x : Halves). record { halves = x; sent = sent }) (ack-of w cap (joined s r) d only h)
+  told s r d only h = ap (λ (x : Halves). record { halves = x; sent = sent }) (ack-of w cap (paired s r) d only h)
 
   pub between-is : {cs : List Call} {ds : List (List ℕ)} {es : List Event} → Between cs ds es → (s : Sender) (r : receiving.State)
       → senderTests.consistentOf w cap s ≡ true → receiverTests.soundOf w cap (r .receiver) (length (r .store)) ≡ true

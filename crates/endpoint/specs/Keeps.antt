@@ -1,16 +1,15 @@
 -- The laws that StaysSound stands on: a datagram goes into both halves or into neither, and each call keeps each half.
-use Prim.Native.Nat.{ℕ, _*_, _%_, _≤_, _<_}
+use Prim.Native.Nat.{ℕ, _%_, _≤_, _<_}
 use mathlib.Core.Bool.{Bool, true, false, cond}
-use mathlib.Core.List.{List, [], _∷_}
+use mathlib.Core.List.{List}
 use mathlib.Core.Logic.{_⊎_, inl, inr, ⊎-elim}
 use mathlib.Core.Path.{_≡_, refl, sym, ap, subst}
 use native.Mathlib.Omega.{arith}
-use lib.Dec.{eqb, ltb}
+use lib.Dec.{eqb}
 use lib.ListN.{length, length-replicate}
 use borrow.Author.Tests.{ltb-false, eq-eqb}
 use Rattle.common.specs.EveryLaws.{all-every}
 use Rattle.common.specs.Facts.{clash}
-use Rattle.common.specs.Order.{test}
 use Rattle.numbers.specs.Full.{highestFirst}
 use Rattle.window.specs.Store.{soundWith, storeSize}
 use Rattle.wire.specs.declared.Reading.{Reading}
@@ -37,7 +36,7 @@ use Rattle.endpoint.specs.Receive.{Halves, receiverOf, soundOf, packetAn
 use Rattle.endpoint.specs.Calls.{Endpoint, Call, receives, takes, acknowledges, sends, resends, sweeps, sendingOf, callOf}
 use Rattle.endpoint.specs.Sound.{Sound}
 use Rattle.endpoint.specs.Fresh.{freshOf}
-use Rattle.endpoint.specs.Steps.{joined, halves-sound}
+use Rattle.endpoint.specs.Steps.{paired, halves-sound}
 
 -- A datagram goes into both halves or into neither.
 module _ (w cap : ℕ) (e : Halves) (d : List ℕ) where
@@ -46,14 +45,14 @@ module _ (w cap : ℕ) (e : Halves) (d : List ℕ) where
   told-both false x = inl refl
 
   read-both : (x : Reading)
-      → (readInto w e d x ≡ e) ⊎ (readInto w e d x ≡ joined (sender.readInto w (e .sender) d x) (receiver.readInto w (receiverOf e) d x))
+      → (readInto w e d x ≡ e) ⊎ (readInto w e d x ≡ paired (sender.readInto w (e .sender) d x) (receiver.readInto w (receiverOf e) d x))
   unfolding readInto sender.readInto receiver.readInto packetOf
   read-both (Refused n) = inl refl
   read-both Dummy = inl refl
   read-both (Read p) = told-both (eqb (packetAnswer w e d p) 0) (packetTold w e d p)
 
-  pub both-or-neither : senderTests.consistentOf w cap (e .sender) ≡ true → receiverTests.soundOf w cap (e .receiver) (length (e .store)) ≡ true
-      → (receiveOf w cap e d ≡ e) ⊎ (receiveOf w cap e d ≡ joined (sender.acknowledgeOf w cap (e .sender) d) (receiver.receiveOf w cap (receiverOf e) d))
+  both-or-neither : senderTests.consistentOf w cap (e .sender) ≡ true → receiverTests.soundOf w cap (e .receiver) (length (e .store)) ≡ true
+      → (receiveOf w cap e d ≡ e) ⊎ (receiveOf w cap e d ≡ paired (sender.acknowledgeOf w cap (e .sender) d) (receiver.receiveOf w cap (receiverOf e) d))
   unfolding receiveOf sender.acknowledgeOf receiver.receiveOf
   both-or-neither s r = rw (halves-sound w cap e s r, s, r) (read-both (readOf d))
 

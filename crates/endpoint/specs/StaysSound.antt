@@ -1,6 +1,6 @@
 -- Demand 1, for the endpoint: from a fresh endpoint, and from any whose halves are consistent and whose stores have their lengths, reached by calls or not, every
 -- sequence of calls leaves such an endpoint. A refused call changes nothing, so nothing is asked of the calls or their answers.
-use Prim.Native.Nat.{ℕ, _*_, _≤_, _<_}
+use Prim.Native.Nat.{ℕ, _≤_, _<_}
 use mathlib.Core.List.{List, [], _∷_}
 use mathlib.Core.Path.{_≡_, sym, subst}
 use lib.ListN.{length}

@@ -33,8 +33,8 @@ use Rattle.endpoint.specs.History.{OnlyData, OnlyAck, NoAck}
 use Rattle.endpoint.specs.Receive.{Halves, receiverOf, soundOf, packetAnswer, packetTold, packetOf, readAnswer, readInto, receiveAnswer, receiveOf}
 
 -- a sender's half and a receiver's
-abbrev pub joined : Sender → receiving.State → Halves
-joined s r = record { sender = s; receiver = r .receiver; store = r .store }
+abbrev pub paired : Sender → receiving.State → Halves
+paired s r = record { sender = s; receiver = r .receiver; store = r .store }
 
 -- Both halves sound.
 pub halves-sound : (w cap : ℕ) (e : Halves) → senderTests.consistentOf w cap (e .sender) ≡ true
@@ -60,22 +60,22 @@ brought-left w s (some nothing) = refl
 brought-left w s (some (waiver v)) = again (eqb (arrivalAnswer w (s .receiver) (waiver v)) 0) _ s
 brought-left w s (some (content p)) = again (eqb (arriving.packetAnswer w (s .receiver) p) 0) _ s
 
-pub values-left : (w : ℕ) (s : receiving.State) (d : List ℕ) (p : Packet)
+values-left : (w : ℕ) (s : receiving.State) (d : List ℕ) (p : Packet)
     → cond (eqb (receiver.valuesAnswer w (s .receiver) d p) 0) (receiver.valuesOf w s d p) s ≡ receiver.valuesOf w s d p
 unfolding receiver.valuesAnswer receiver.valuesOf
 values-left w s d p = brought-left w s (arrivalFrom (s .receiver) (p .values) (bodyIn d p))
 
-pub told-left : (w : ℕ) (s : Sender) (m : Told) → cond (eqb (toldAnswer s m) 0) (toldOf w s m) s ≡ toldOf w s m
+told-left : (w : ℕ) (s : Sender) (m : Told) → cond (eqb (toldAnswer s m) 0) (toldOf w s m) s ≡ toldOf w s m
 unfolding toldAnswer toldOf
 told-left w s silent = refl
 told-left w s (upTo a) = again (eqb (toldAnswer s (upTo a)) 0) _ s
 told-left w s (listed a v) = again (eqb (toldAnswer s (listed a v)) 0) _ s
 
-cond-receiver : (b : Bool) (s : Sender) (x y : receiving.State) → cond b (joined s x) (joined s y) ≡ joined s (cond b x y)
+cond-receiver : (b : Bool) (s : Sender) (x y : receiving.State) → cond b (paired s x) (paired s y) ≡ paired s (cond b x y)
 cond-receiver true s x y = refl
 cond-receiver false s x y = refl
 
-cond-sender : (b : Bool) (s t : Sender) (x : receiving.State) → cond b (joined s x) (joined t x) ≡ joined (cond b s t) x
+cond-sender : (b : Bool) (s t : Sender) (x : receiving.State) → cond b (paired s x) (paired t x) ≡ paired (cond b s t) x
 cond-sender true s t x = refl
 cond-sender false s t x = refl
 
@@ -85,17 +85,17 @@ module _ (w : ℕ) (e : Halves) (d : List ℕ) (p : Packet) (t : toldBy (e .send
   unfolding packetAnswer toldAnswer
   quiet-answer = rw t refl
 
-  quiet-told : packetTold w e d p ≡ joined (e .sender) (receiver.valuesOf w (receiverOf e) d p)
+  quiet-told : packetTold w e d p ≡ paired (e .sender) (receiver.valuesOf w (receiverOf e) d p)
   unfolding toldOf
-  quiet-told = ap (λ (m : Told). joined (toldOf w (e .sender) m) (receiver.valuesOf w (receiverOf e) d p)) t
+  quiet-told = ap (λ (m : Told). paired (toldOf w (e .sender) m) (receiver.valuesOf w (receiverOf e) d p)) t
 
-  quiet-of : packetOf w e d p ≡ joined (e .sender) (receiver.valuesOf w (receiverOf e) d p)
+  quiet-of : packetOf w e d p ≡ paired (e .sender) (receiver.valuesOf w (receiverOf e) d p)
   unfolding packetOf
   quiet-of =
       ap (λ (n : ℕ). cond (eqb n 0) (packetTold w e d p) e) quiet-answer
       ∙ ap (λ (x : Halves). cond (eqb (receiver.valuesAnswer w (e .receiver) d p) 0) x e) quiet-told
       ∙ cond-receiver (eqb (receiver.valuesAnswer w (e .receiver) d p) 0) (e .sender) (receiver.valuesOf w (receiverOf e) d p) (receiverOf e)
-      ∙ ap (joined (e .sender)) (values-left w (receiverOf e) d p)
+      ∙ ap (paired (e .sender)) (values-left w (receiverOf e) d p)
 
 same : (b : Bool) → cond b true false ≡ b
 same true = refl
@@ -114,17 +114,17 @@ module _ (w : ℕ) (e : Halves) (d : List ℕ) (p : Packet) (t : arrivalFrom (e 
   unfolding packetAnswer receiver.valuesAnswer arrivalAnswer
   idle-answer = rw t (zero-or (toldAnswer (e .sender) (toldBy (e .sender) d p)))
 
-  idle-told : packetTold w e d p ≡ joined (toldOf w (e .sender) (toldBy (e .sender) d p)) (receiverOf e)
+  idle-told : packetTold w e d p ≡ paired (toldOf w (e .sender) (toldBy (e .sender) d p)) (receiverOf e)
   unfolding receiver.valuesOf arrivalOf
-  idle-told = ap (λ (o : Option Arrival). joined (toldOf w (e .sender) (toldBy (e .sender) d p)) (stateFor w (receiverOf e) o)) t
+  idle-told = ap (λ (o : Option Arrival). paired (toldOf w (e .sender) (toldBy (e .sender) d p)) (stateFor w (receiverOf e) o)) t
 
-  idle-of : packetOf w e d p ≡ joined (toldOf w (e .sender) (toldBy (e .sender) d p)) (receiverOf e)
+  idle-of : packetOf w e d p ≡ paired (toldOf w (e .sender) (toldBy (e .sender) d p)) (receiverOf e)
   unfolding packetOf
   idle-of =
       ap (λ (n : ℕ). cond (eqb n 0) (packetTold w e d p) e) idle-answer
       ∙ ap (λ (x : Halves). cond (eqb (toldAnswer (e .sender) (toldBy (e .sender) d p)) 0) x e) idle-told
       ∙ cond-sender (eqb (toldAnswer (e .sender) (toldBy (e .sender) d p)) 0) (toldOf w (e .sender) (toldBy (e .sender) d p)) (e .sender) (receiverOf e)
-      ∙ ap (λ (s : Sender). joined s (receiverOf e)) (told-left w (e .sender) (toldBy (e .sender) d p))
+      ∙ ap (λ (s : Sender). paired s (receiverOf e)) (told-left w (e .sender) (toldBy (e .sender) d p))
 
 -- Data alone has no acknowledgement, and a packet with none tells the sender nothing.
 pub data-no-ack : (d : List ℕ) → OnlyData d → NoAck d
@@ -146,7 +146,7 @@ brings-nothing r v block (inr f) = rw f refl
 -- No acknowledgement: the endpoint answers as its receiver's half does, and only that half changes.
 module _ (w cap : ℕ) (e : Halves) (d : List ℕ) (only : NoAck d) (s : senderTests.consistentOf w cap (e .sender) ≡ true) where
   read-quiet : (r : Reading) → readOf d ≡ r
-      → (readAnswer w e d r ≡ receiver.readAnswer w (e .receiver) d r) × (readInto w e d r ≡ joined (e .sender) (receiver.readInto w (receiverOf e) d r))
+      → (readAnswer w e d r ≡ receiver.readAnswer w (e .receiver) d r) × (readInto w e d r ≡ paired (e .sender) (receiver.readInto w (receiverOf e) d r))
   unfolding readAnswer readInto receiver.readAnswer receiver.readInto
   read-quiet (Refused n) q = (refl, refl)
   read-quiet Dummy q = (refl, refl)
@@ -161,7 +161,7 @@ module _ (w cap : ℕ) (e : Halves) (d : List ℕ) (only : NoAck d) (s : senderT
   unfolding receiveAnswer receiver.receiveAnswer
   no-ack-answer = rw sound-is (ap (λ (n : ℕ). cond (receiverTests.soundOf w cap (e .receiver) (length (e .store))) n 13) (read-quiet (readOf d) refl .0))
 
-  pub no-ack-of : receiveOf w cap e d ≡ joined (e .sender) (receiver.receiveOf w cap (receiverOf e) d)
+  pub no-ack-of : receiveOf w cap e d ≡ paired (e .sender) (receiver.receiveOf w cap (receiverOf e) d)
   unfolding receiveOf receiver.receiveOf
   no-ack-of =
       rw sound-is
@@ -171,7 +171,7 @@ module _ (w cap : ℕ) (e : Halves) (d : List ℕ) (only : NoAck d) (s : senderT
 -- An acknowledgement alone: the endpoint answers as its sender's half does, and only that half changes.
 module _ (w cap : ℕ) (e : Halves) (d : List ℕ) (only : OnlyAck d) (r : receiverTests.soundOf w cap (e .receiver) (length (e .store)) ≡ true) where
   read-idle : (x : Reading) → readOf d ≡ x
-      → (readAnswer w e d x ≡ sender.readAnswer (e .sender) d x) × (readInto w e d x ≡ joined (sender.readInto w (e .sender) d x) (receiverOf e))
+      → (readAnswer w e d x ≡ sender.readAnswer (e .sender) d x) × (readInto w e d x ≡ paired (sender.readInto w (e .sender) d x) (receiverOf e))
   unfolding readAnswer readInto sender.readAnswer sender.readInto
   read-idle (Refused n) q = (refl, refl)
   read-idle Dummy q = (refl, refl)
@@ -187,7 +187,7 @@ module _ (w cap : ℕ) (e : Halves) (d : List ℕ) (only : OnlyAck d) (r : recei
   unfolding receiveAnswer sender.acknowledgeAnswer
   ack-answer = rw consistent-is (ap (λ (n : ℕ). cond (senderTests.consistentOf w cap (e .sender)) n 13) (read-idle (readOf d) refl .0))
 
-  pub ack-of : receiveOf w cap e d ≡ joined (sender.acknowledgeOf w cap (e .sender) d) (receiverOf e)
+  pub ack-of : receiveOf w cap e d ≡ paired (sender.acknowledgeOf w cap (e .sender) d) (receiverOf e)
   unfolding receiveOf sender.acknowledgeOf
   ack-of =
       rw consistent-is

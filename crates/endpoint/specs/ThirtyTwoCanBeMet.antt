@@ -18,7 +18,7 @@ use Rattle.numbers.specs.Widen.{widenOf}
 use Rattle.window.specs.Places.{tabulate, length-tabulate, getD-tabulate}
 use Rattle.window.specs.Free.{free}
 use Rattle.window.specs.Members.{In, among, top}
-use Rattle.wire.specs.declared.Packet.{Packet as Taken}
+use Rattle.wire.specs.declared.Packet.{Packet as WirePacket}
 use Rattle.wire.specs.declared.Reading.{Reading}
 use Rattle.wire.specs.declared.Reading.the-variants.{Refused, Dummy, Read}
 use Rattle.wire.specs.declared.Values.{Values}
@@ -138,7 +138,7 @@ one-brings i l =
     ∙ getD-tabulate 32 (λ j. some (packet j)) i none l
 
 record Brings (d : List ℕ) (q : Packet) : Type 0 where
-  taken : Taken
+  taken : WirePacket
   reads : readOf d ≡ Read taken
   only : (taken .values .flags ≡ 0x004) ⊎ (taken .values .flags ≡ 0x014)
   widens : packetFrom (fresh .receiver) (taken .values) (bodyIn d taken) ≡ some q
@@ -149,7 +149,7 @@ no-packet q e = let z : _≡_ {A = ℕ} 0 1 = cc in absurd (omega arith)
 brings : (d : List ℕ) (q : Packet) → brought d (readOf d) ≡ some q → Brings d q
 brings d q e = go (readOf d) refl e
   where
-    flagged : (p : Taken) → readOf d ≡ Read p → (a b : Bool) → eqb (p .values .flags) 0x004 ≡ a → eqb (p .values .flags) 0x014 ≡ b
+    flagged : (p : WirePacket) → readOf d ≡ Read p → (a b : Bool) → eqb (p .values .flags) 0x004 ≡ a → eqb (p .values .flags) 0x014 ≡ b
         → cond (either a b) (packetFrom (fresh .receiver) (p .values) (bodyIn d p)) none ≡ some q → Brings d q
     flagged p r true b s t w = record { taken = p; reads = r; only = inl (eqb-true (p .values .flags) 0x004 s); widens = w }
     flagged p r false true s t w = record { taken = p; reads = r; only = inr (eqb-true (p .values .flags) 0x014 t); widens = w }
@@ -215,7 +215,7 @@ pub thirty-two-carry-data : (d : List ℕ) → In d set32 → OnlyData d
 thirty-two-carry-data = at-listed OnlyData λ i l p r.
     let k = brings (datagram i) (packet i) (one-brings i l) in
     let same : k .taken ≡ p = cc in
-    subst (λ (x : Taken). (x .values .flags ≡ 0x004) ⊎ (x .values .flags ≡ 0x014)) same (k .only)
+    subst (λ (x : WirePacket). (x .values .flags ≡ 0x004) ⊎ (x .values .flags ≡ 0x014)) same (k .only)
 
 block-is : (d : List ℕ) → In d set32 → packetAt (fresh .receiver) d .block ≡ block (packetAt (fresh .receiver) d .channel)
 block-is =

@@ -18,7 +18,7 @@ use Rattle.window.specs.Store.{placeSize}
 use Rattle.vector.specs.Says.{saysOf, bitsOf, statesIn, statesOf, names}
 use Rattle.window.specs.Free.{free}
 use Rattle.window.specs.Members.{In, among, top}
-use Rattle.window.specs.Places.{numberAt, spread, tabulate}
+use Rattle.window.specs.Places.{numberFrom, spread, tabulate}
 use Rattle.window.specs.Window.{slid}
 use Rattle.wire.specs.Flags.{outside, sixOf}
 use Rattle.wire.specs.Frame.{swapped, droppedBy, endOf}
@@ -143,7 +143,7 @@ settledReceiver =
     }
 
 brought-settled : determinedOf 32 usedReceiver (map itemOf packets) ≡ settledReceiver
-unfolding determinedOf baseBy floorBy endBy dueBy seenBy hasBy lengthBy lengthIn markedIn heldIn inside free among top spread tabulate numberAt
+unfolding determinedOf baseBy floorBy endBy dueBy seenBy hasBy lengthBy lengthIn markedIn heldIn inside free among top spread tabulate numberFrom
 brought-settled = refl
 
 pub used-settled : determinedOf 32 usedReceiver (itemsOf (receiverOf (used .halves)) usedSet) ≡ settledReceiver

@@ -18,7 +18,7 @@ fn judge(d: &[u8], from: usize, n: usize, room: usize) -> u8
     if size < wire::SHORTEST {
         return 1;
     }
-    if wire::LONGEST < size {
+    if wire::LONGEST_DATAGRAM < size {
         return 1;
     }
     let end = size - bits::dropped(reader::byte_at(d, 0));

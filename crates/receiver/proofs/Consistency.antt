@@ -6,7 +6,7 @@ use mathlib.Core.Path.{_≡_, refl, sym, _∙_, ap}
 use native.Mathlib.Omega.{arith}
 use lib.ListN.{length, getD, length-map}
 use lib.Dec.{eqb, leb, ltb}
-use borrow.Author.Tests.{lt-ltb, le-ltb, le-leb, lt-leb, eq-eqb, ne-eqb, leb-true, eqb-true, not-false}
+use borrow.Author.Tests.{lt-ltb, le-ltb, le-leb, lt-leb, eq-eqb, ne-eqb, leb-true, not-false}
 use Rattle.common.specs.Every.{every, allBelow, implies}
 use Rattle.common.specs.Facts.{ltb-not, leb-not, clash, not-so}
 use Rattle.numbers.specs.Full.{highest, pastHighest}
@@ -18,7 +18,7 @@ use Rattle.receiver.specs.declared.Receiver.{Receiver}
 use Rattle.receiver.specs.Record.{isMarked, isHeld, empty, markAt, holdAt}
 use Rattle.receiver.specs.Consistent.{boundTests, boundsFit, markFits, zeroTests, holdFits, markOk, holdOk, spareMark, spareHold, consistencyTests, consistentOf}
 use Rattle.receiver.specs.Checking.{heldLow}
-use Rattle.common.specs.EveryLaws.{every-at, every-fails, every-later, every-skip, every-front, every-back, every-last, every-none, every-made, every-one, implies-if, implies-else, imply, all-from, all-at, all-both}
+use Rattle.common.specs.EveryLaws.{every-at, every-fails, every-skip, every-none, every-made, every-one, implies-if, implies-else, imply, all-from, all-both}
 
 -- ONE PLACE
 

@@ -8,7 +8,7 @@ use lib.Dec.{eqb, leb, ltb}
 use Rattle.common.specs.Order.{Test, test, first}
 use Rattle.vector.specs.Rule.{vectorOf}
 use Rattle.wire.specs.declared.Values.{Values}
-use Rattle.wire.specs.Layout.{noAck, noDelay, noVector}
+use Rattle.wire.specs.Layout.{logWindow, noAck, noDelay, noVector}
 use Rattle.wire.specs.Write.{datagramOf}
 use Rattle.receiver.specs.declared.Receiver.{Receiver}
 use Rattle.receiver.specs.Record.{isMarked, markAt}
@@ -31,7 +31,7 @@ abbrev pub ackValues : Receiver → ℕ → ℕ → Values
 ackValues r stamp gap =
     record {
       flags = 0x001;
-      logwindow = 5;
+      logwindow = logWindow;
       ack = record { number = (r .base .0 - 1) % 65536; time = stamp % 2 ^ 24; gap = gap; count = 0; scale = 0 };
       overhead = 0;
       delay = noDelay;
@@ -45,7 +45,7 @@ abbrev pub vectorValues : ℕ → Receiver → Values
 vectorValues w r =
     record {
       flags = 0x008;
-      logwindow = 5;
+      logwindow = logWindow;
       ack = noAck;
       overhead = 0;
       delay = noDelay;

@@ -1,5 +1,5 @@
 -- The premises of the receiver's theorems can be met: a fresh record is consistent, and three datagrams are a set as demand 3 has it.
-use Prim.Native.Nat.{ℕ, _*_, _%_, _≤_}
+use Prim.Native.Nat.{ℕ, _%_, _≤_}
 use mathlib.Core.Bool.{Bool, true, false, cond}
 use mathlib.Core.List.{List, [], _∷_, List·Memᴰ·head, List·Memᴰ·tail}
 use mathlib.Core.Option.{none, some}

@@ -8,7 +8,7 @@ use Rattle.numbers.specs.declared.Widened.{Widened}
 use Rattle.numbers.specs.declared.Widened.the-variants.{At, Below}
 use Rattle.numbers.specs.Widen.{widenOf, outOf}
 use Rattle.wire.specs.declared.Values.{Values}
-use Rattle.wire.specs.declared.Packet.{Packet as Taken}
+use Rattle.wire.specs.declared.Packet.{Packet as WirePacket}
 use Rattle.wire.specs.declared.Reading.{Reading}
 use Rattle.wire.specs.declared.Reading.the-variants.{Refused, Dummy, Read}
 use Rattle.wire.specs.Flags.{dataIn, aoaIn}
@@ -66,10 +66,10 @@ stateFor w s none = s
 stateFor w s (some a) = arrivalOf w s a
 
 -- the values that a datagram was read as
-unfoldable pub valuesAnswer : ℕ → Receiver → List ℕ → Taken → ℕ
+unfoldable pub valuesAnswer : ℕ → Receiver → List ℕ → WirePacket → ℕ
 valuesAnswer w r d p = answerFor w r (arrivalFrom r (p .values) (bodyIn d p))
 
-unfoldable pub valuesOf : ℕ → State → List ℕ → Taken → State
+unfoldable pub valuesOf : ℕ → State → List ℕ → WirePacket → State
 valuesOf w s d p = stateFor w s (arrivalFrom (s .receiver) (p .values) (bodyIn d p))
 
 -- "Type 8 is a dummy: accepted, .. nothing changed."

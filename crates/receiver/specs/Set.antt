@@ -7,7 +7,7 @@ use mathlib.Core.Path.{_≡_}
 use lib.ListN.{length}
 use Rattle.numbers.specs.Full.{highest}
 use Rattle.window.specs.Members.{In}
-use Rattle.wire.specs.declared.Packet.{Packet as Taken}
+use Rattle.wire.specs.declared.Packet.{Packet as WirePacket}
 use Rattle.wire.specs.declared.Reading.{Reading}
 use Rattle.wire.specs.declared.Reading.the-variants.{Refused, Dummy, Read}
 use Rattle.wire.specs.Flags.{dataIn}
@@ -24,7 +24,7 @@ use Rattle.receiver.specs.History.{Event, datagramsOf}
 -- reading accepts a datagram with DATA, and none of its numbers is out of place for the record; other payloads do not reach the receiver
 pub record Readable (r : Receiver) (d : List ℕ) : Type 0 where
   pub bytes : Bytes d
-  pub taken : Taken
+  pub taken : WirePacket
   pub reads : readOf d ≡ Read taken
   pub carries : dataIn (taken .values .flags) ≡ true
   pub packet : Packet

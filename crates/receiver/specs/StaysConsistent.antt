@@ -5,26 +5,11 @@ use mathlib.Core.Bool.{true}
 use mathlib.Core.List.{List}
 use mathlib.Core.Path.{_≡_}
 use lib.ListN.{length}
-use Rattle.window.specs.Store.{placeSize}
 use Rattle.receiver.specs.Record.{State}
 use Rattle.receiver.specs.Consistent.{soundOf}
-use Rattle.receiver.specs.Packet.{Packet, Arrival, packetOf, arrivalOf}
 use Rattle.receiver.specs.Take.{takenOf}
 use Rattle.receiver.specs.Receive.{receiveOf}
-use Rattle.receiver.specs.Keeping.Brought.{Short}
-use Rattle.receiver.specs.Keeping.Calls.{packet-sound, arrival-sound, take-sound, receive-sound}
-
--- A packet of data, whose block has at most 1,225 bytes.
-pub packet-keeps : (w cap : ℕ) (s : State) (p : Packet) → 0 < w → w ≤ cap → length (p .block) ≤ placeSize
-    → soundOf w cap (s .receiver) (length (s .store)) ≡ true
-    → soundOf w cap (packetOf w s p .receiver) (length (packetOf w s p .store)) ≡ true
-packet-keeps w cap s p pos fits short h = packet-sound w cap s p pos fits short h
-
--- A packet of data, an AckOfAcks alone, or nothing for the receiver.
-pub arrival-keeps : (w cap : ℕ) (s : State) (a : Arrival) → 0 < w → w ≤ cap → Short a
-    → soundOf w cap (s .receiver) (length (s .store)) ≡ true
-    → soundOf w cap (arrivalOf w s a .receiver) (length (arrivalOf w s a .store)) ≡ true
-arrival-keeps w cap s a pos fits short h = arrival-sound w cap s a pos fits short h
+use Rattle.receiver.specs.Keeping.Calls.{take-sound, receive-sound}
 
 -- A take, with any room; it changes no byte of the store.
 pub take-keeps : (w cap : ℕ) (s : State) (room : ℕ) → 0 < w → w ≤ cap

@@ -9,7 +9,7 @@ use crate::Receiver;
 use numbers::DataNumber;
 
 // The longest block that is held, as a place has its length.
-const LONGEST: u16 = window::PLACE as u16;
+const LONGEST_HELD: u16 = window::PLACE as u16;
 
 // Do the firsts, base, end and due lie in their ranges?
 fn bounds_fit(firstdata: u64, firstchannel: u64, base: u64, end: u64, due: u64) -> bool
@@ -52,7 +52,7 @@ fn hold_wrong(h: Hold) -> bool
     ensures { λ r. ⌜ r ≡ not (holdFits h 0) ⌝ }
 {
     let held = h.held == 1;
-    (held & (LONGEST < h.length)) | (!held & ((h.held != 0) | (h.length != 0)))
+    (held & (LONGEST_HELD < h.length)) | (!held & ((h.held != 0) | (h.length != 0)))
 }
 
 // Is a block held that is not among the first `room` blocks from due on? Where room is the whole window, none can be.

@@ -5,7 +5,7 @@ use libc::STDOUT_FILENO;
 
 fn main() {
     // One byte more than the longest trace, so that a longer input is told as too long.
-    let mut trace = [0u8; replayer::LONGEST + 1];
+    let mut trace = [0u8; replayer::LONGEST_TRACE + 1];
     let n = io::read_full(STDIN_FILENO, &mut trace);
     let mut text = [0u8; replayer::ROOM];
     let Written::Wrote(k) = replayer::replay(&trace[..n], &mut text) else {

@@ -35,7 +35,7 @@ fn events(out: &mut [u8], at: usize) -> usize
     let at3 = event(out, at2, 1010, trace::SWEEP, b"");
     let at4 = event(out, at3, 1020, trace::RESEND, b"");
     let at5 = event(out, at4, 1030, trace::TAKE, b"");
-    event(out, at5, 4294967295, trace::ACK, b"")
+    event(out, at5, 4294967295, trace::ACKNOWLEDGE, b"")
 }
 
 // Records a morning.

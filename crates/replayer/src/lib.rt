@@ -16,7 +16,7 @@ use sender::Sender;
 use trace::Cursor;
 
 // The longest trace.
-pub const LONGEST: usize = 65536;
+pub const LONGEST_TRACE: usize = 65536;
 
 // Half of it: no line of data names more bytes.
 const DATA: usize = 32768;
@@ -225,7 +225,7 @@ fn lines(trace: &[u8], out: &mut [u8]) -> usize
     requires { ⌜ 131072 ≤ length (now out) ⌝ }
     ensures { λ r. ⌜ LaidWithin 131072 (replayOf (now (trace .entry))) (now (out .entry)) 0 (now (out .exit)) r ⌝ }
 {
-    if LONGEST < trace.len() {
+    if LONGEST_TRACE < trace.len() {
         return record_lines::answer_line(out, 0, false, 16, 0);
     }
     fresh_run(trace, out)

@@ -57,7 +57,7 @@ ack-short r stamp gap =
     let p : List ℕ = packetBytes (ackValues r stamp gap) [] [] [] in
     omega (arith, framed-length (prefixFor p) p)
 
-pub ack-decides : (r : Receiver) (stamp gap room : ℕ)
+ack-decides : (r : Receiver) (stamp gap room : ℕ)
     → roomAnswer (datagramOf (ackValues r stamp gap) [] [] []) room ≡ writeAnswer (ackValues r stamp gap) [] [] [] room
 ack-decides r stamp gap room = room-decides (ackValues r stamp gap) [] [] [] room (ack-plain r stamp gap) (ack-short r stamp gap)
 

@@ -43,7 +43,7 @@ states-step w r n i at s l h a =
 pub states-done : (w : ℕ) (r : Receiver) (b n i : ℕ) (s : List Bool) → i ≡ n → take i s ≡ statesFrom w r b i → take n s ≡ statesFrom w r b n
 states-done w r b n i s e h = rw e at h
 
-pub states-are : (w : ℕ) (r : Receiver) (ss : List Bool) → ss ≡ statesFrom w r (r .base .0) (r .end .0 - r .base .0) → ss ≡ statesOf w r
+states-are : (w : ℕ) (r : Receiver) (ss : List Bool) → ss ≡ statesFrom w r (r .base .0) (r .end .0 - r .base .0) → ss ≡ statesOf w r
 unfolding statesOf
 states-are w r ss e = e
 

@@ -18,12 +18,9 @@ use wire::Values;
 use wire::Vector;
 
 // The flags of an ACK alone, and of a vector alone.
-const ACK: u16 = 1;
+const ACK_ALONE: u16 = 1;
 
-const ACKVEC: u16 = 8;
-
-// The LogWindowSize that the endpoint writes.
-const LOGWINDOW: u8 = 5;
+const ACKVEC_ALONE: u16 = 8;
 
 // Writes an ACK for the number before base.
 pub(crate) fn write_ack(r: Receiver, stamp: u32, gap: u8, out: &mut [u8]) -> Written
@@ -32,10 +29,10 @@ pub(crate) fn write_ack(r: Receiver, stamp: u32, gap: u8, out: &mut [u8]) -> Wri
     ensures bytes { λ x. ⌜ now (out .exit)
         ≡ leftOf (roomAnswer (datagramOf (ackValues r stamp gap) [] [] []) (length (now (out .entry)))) (datagramOf (ackValues r stamp gap) [] [] []) (now (out .entry)) ⌝ }
 {
-    let number = ((r.base.0 - 1) % 65536) as u16;
+    let number = ((r.base.0 - 1) % DataNumber::LAP) as u16;
     let values = Values {
-        flags: ACK,
-        logwindow: LOGWINDOW,
+        flags: ACK_ALONE,
+        logwindow: wire::LOGWINDOW,
         ack: Ack {
             number,
             time: stamp % 16777216,
@@ -86,10 +83,10 @@ pub(crate) fn write_vector(r: Receiver, out: &mut [u8]) -> Written
     let Written::Wrote(k) = coder::write(&states[..n], &mut coded) else {
         return Written::Refused(14);
     };
-    let base = (from % 65536) as u16;
+    let base = (from % DataNumber::LAP) as u16;
     let values = Values {
-        flags: ACKVEC,
-        logwindow: LOGWINDOW,
+        flags: ACKVEC_ALONE,
+        logwindow: wire::LOGWINDOW,
         ack: Ack {
             number: 0,
             time: 0,

@@ -1,5 +1,5 @@
 -- Laws that the functions' proofs cite.
-pub mod Passing
-pub mod Marks
-pub mod Judged
-pub mod Placed
+mod Passing
+mod Marks
+mod Judged
+mod Placed

@@ -30,7 +30,7 @@ pub record Pending (p : NumberPlace) (fly : Bool) (n next channellow channelnext
   pub most : p .channel .0 < channelnext
   pub flies : fly ≡ true
 
-pub pending-facts : (p : NumberPlace) (fly : Bool) (n next first channellow channelnext : ℕ) → numberFits p fly n next first channellow channelnext ≡ true
+pending-facts : (p : NumberPlace) (fly : Bool) (n next first channellow channelnext : ℕ) → numberFits p fly n next first channellow channelnext ≡ true
     → isPending p ≡ true → Pending p fly n next channellow channelnext
 pending-facts p fly n next first channellow channelnext h t = ⊎-elim inside past (lt-or-ge n next)
   where

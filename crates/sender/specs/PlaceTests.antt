@@ -1,5 +1,5 @@
 -- What the tests of one place come to, by where its number stands and what its state is.
-use Prim.Native.Nat.{ℕ, zero, _+_, _-_, _≤_, _<_}
+use Prim.Native.Nat.{ℕ, _+_, _-_, _≤_, _<_}
 use mathlib.Core.Bool.{Bool, true, false, cond}
 use mathlib.Core.List.{List, [], _∷_}
 use mathlib.Core.Path.{_≡_, refl, ap, subst}

@@ -17,7 +17,7 @@ use Rattle.sender.specs.Record.{isReceived, isAcknowledged, numberAt, bl
 use Rattle.sender.specs.Acknowledge.{acknowledging, toldNames, toldBy, acknowledgeAnswer, acknowledgeOf}
 use Rattle.sender.specs.Facts.{Facts, facts-consistent}
 use Rattle.sender.specs.TurnedWants.{acknowledging-ends}
-use Rattle.sender.specs.Turned.{Turned, either, or-none, turned-alike}
+use Rattle.sender.specs.Turned.{Turned, eitherOf, or-none, turned-alike}
 use Rattle.sender.specs.TurnedFacts.{turned-facts}
 use Rattle.sender.specs.Tells.{tells, acceptedNames, Alike, same-names, datagram-turned}
 
@@ -102,13 +102,13 @@ module _ {w cap : ℕ} {s : Sender} (f : Facts w cap s) where
   turned-like a = record { firstdata = a .turning .firstdata; next = a .turning .next }
 
   pub run-turned : (ds : List (List ℕ)) {chosen : ℕ → Bool} {q : Sender} → Turned w cap acknowledging s chosen q
-      → Turned w cap acknowledging s (either chosen (namedIn w cap s ds)) (run w cap q ds)
+      → Turned w cap acknowledging s (eitherOf chosen (namedIn w cap s ds)) (run w cap q ds)
   unfolding run namedIn
   run-turned [] {chosen} a = turned-alike acknowledging-ends f _ (λ n l u p. or-none (chosen n) false refl) a
   run-turned (d ∷ ds) {chosen} {q} a =
       let hq = facts-consistent w cap q (turned-facts acknowledging-ends f a) in
       let hs = facts-consistent w cap s f in
-      let next : Turned w cap acknowledging s (either chosen (acceptedNames w cap s d)) (acknowledgeOf w cap q d) =
-      turned-alike acknowledging-ends f (either chosen (acceptedNames w cap s d))
+      let next : Turned w cap acknowledging s (eitherOf chosen (acceptedNames w cap s d)) (acknowledgeOf w cap q d) =
+      turned-alike acknowledging-ends f (eitherOf chosen (acceptedNames w cap s d))
       (λ n l u p. ap (λ (x : Bool). chosen n || x) (same-names w cap q s (turned-like a) hq hs d n)) (datagram-turned f a d) in
       turned-alike acknowledging-ends f _ (λ n l u p. or-assoc (chosen n) (acceptedNames w cap s d n) (namedIn w cap s ds n)) (run-turned ds next)

@@ -10,7 +10,7 @@ use Rattle.common.specs.Order.{Test, test, first}
 use Rattle.numbers.specs.Full.{highest}
 use Rattle.window.specs.Store.{storePlace}
 use Rattle.wire.specs.declared.Values.{Values}
-use Rattle.wire.specs.Layout.{noAck, noDelay, noVector}
+use Rattle.wire.specs.Layout.{logWindow, noAck, noDelay, noVector}
 use Rattle.wire.specs.Write.{datagramOf}
 use Rattle.sender.specs.declared.Sender.{Sender}
 use Rattle.sender.specs.Record.{longestSent, State, pending, inFlight, isWaiting, blockAt, contents}
@@ -21,7 +21,7 @@ abbrev pub dataValues : ℕ → ℕ → ℕ → Values
 dataValues low next c =
     record {
       flags = 0x014;
-      logwindow = 5;
+      logwindow = logWindow;
       ack = noAck;
       overhead = 0;
       delay = noDelay;

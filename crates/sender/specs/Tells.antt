@@ -17,7 +17,7 @@ use Rattle.sender.specs.Consistent.{consistentOf}
 use Rattle.sender.specs.Acknowledge.{acknowledging, acknowledgedOf, Told, silent, upTo, listed, upToAnswer, listedAnswer, toldAnswer, toldNames, toldOf, toldBy, readAnswer, readInto, acknowledgeAnswer, acknowledgeOf}
 use Rattle.sender.specs.Facts.{Facts, facts-consistent}
 use Rattle.sender.specs.TurnedWants.{acknowledging-ends}
-use Rattle.sender.specs.Turned.{Turned, either, or-none, turned-alike, turned-again}
+use Rattle.sender.specs.Turned.{Turned, eitherOf, or-none, turned-alike, turned-again}
 use Rattle.sender.specs.TurnedFacts.{turned-facts}
 
 -- what a datagram tells: nothing, unless it reads
@@ -90,32 +90,32 @@ cond-none false = refl
 
 module _ {w cap : ℕ} {s : Sender} (f : Facts w cap s) {chosen : ℕ → Bool} {q : Sender} (a : Turned w cap acknowledging s chosen q) where
   -- nothing more is chosen
-  as-before : (g : ℕ → Bool) → ((n : ℕ) → false ≡ g n) → Turned w cap acknowledging s (either chosen g) q
-  as-before g h = turned-alike acknowledging-ends f (either chosen g) (λ n l u p. or-none (chosen n) (g n) (sym (h n))) a
+  as-before : (g : ℕ → Bool) → ((n : ℕ) → false ≡ g n) → Turned w cap acknowledging s (eitherOf chosen g) q
+  as-before g h = turned-alike acknowledging-ends f (eitherOf chosen g) (λ n l u p. or-none (chosen n) (g n) (sym (h n))) a
 
-  by-test : (b : Bool) (g : ℕ → Bool) → Turned w cap acknowledging s (either chosen (λ n. cond b (g n) false)) (cond b (acknowledgedOf w q g) q)
+  by-test : (b : Bool) (g : ℕ → Bool) → Turned w cap acknowledging s (eitherOf chosen (λ n. cond b (g n) false)) (cond b (acknowledgedOf w q g) q)
   unfolding acknowledgedOf
   by-test true g = turned-again acknowledging-ends f (a .turning) g
   by-test false g = as-before _ (λ n. refl)
 
-  told-turned : (m : Told) → Turned w cap acknowledging s (either chosen (λ n. cond (eqb (toldAnswer q m) 0) (toldNames m n) false)) (toldOf w q m)
+  told-turned : (m : Told) → Turned w cap acknowledging s (eitherOf chosen (λ n. cond (eqb (toldAnswer q m) 0) (toldNames m n) false)) (toldOf w q m)
   unfolding toldOf toldNames
   told-turned silent = as-before _ (λ n. cond-none (eqb (toldAnswer q silent) 0))
   told-turned (upTo x) = by-test (eqb (toldAnswer q (upTo x)) 0) (toldNames (upTo x))
   told-turned (listed x v) = by-test (eqb (toldAnswer q (listed x v)) 0) (toldNames (listed x v))
 
   read-turned : (d : List ℕ) (r : Reading)
-      → Turned w cap acknowledging s (either chosen (λ n. cond (eqb (readAnswer q d r) 0) (toldNames (tells q d r) n) false)) (readInto w q d r)
+      → Turned w cap acknowledging s (eitherOf chosen (λ n. cond (eqb (readAnswer q d r) 0) (toldNames (tells q d r) n) false)) (readInto w q d r)
   unfolding readAnswer readInto tells toldNames
   read-turned d (Refused k) = as-before _ (λ n. cond-none (eqb k 0))
   read-turned d Dummy = as-before _ (λ n. refl)
   read-turned d (Read p) = told-turned (toldBy q d p)
 
   -- One datagram more: the numbers that it names are chosen besides.
-  pub datagram-turned : (d : List ℕ) → Turned w cap acknowledging s (either chosen (acceptedNames w cap q d)) (acknowledgeOf w cap q d)
+  pub datagram-turned : (d : List ℕ) → Turned w cap acknowledging s (eitherOf chosen (acceptedNames w cap q d)) (acknowledgeOf w cap q d)
   unfolding acceptedNames
   datagram-turned d =
       let h : consistentOf w cap q ≡ true = facts-consistent w cap q (turned-facts acknowledging-ends f a) in
-      subst (λ (r : Sender). Turned w cap acknowledging s (either chosen (acceptedNames w cap q d)) r) (sym (left-is w cap q d h))
-      (subst (λ (k : ℕ). Turned w cap acknowledging s (either chosen (λ n. cond (eqb k 0) (toldNames (tells q d (readOf d)) n) false)) (readInto w q d (readOf d)))
+      subst (λ (r : Sender). Turned w cap acknowledging s (eitherOf chosen (acceptedNames w cap q d)) r) (sym (left-is w cap q d h))
+      (subst (λ (k : ℕ). Turned w cap acknowledging s (eitherOf chosen (λ n. cond (eqb k 0) (toldNames (tells q d (readOf d)) n) false)) (readInto w q d (readOf d)))
       (sym (answer-is w cap q d h)) (read-turned d (readOf d)))

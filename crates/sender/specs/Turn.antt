@@ -17,8 +17,8 @@ pub record Turn : Type 0 where
 abbrev pub inState : NumberPlace → ℕ → NumberPlace
 inState p k = record { state = k; channel = p .channel; tick = p .tick }
 
-abbrev pub blockIn : BlockPlace → ℕ → BlockPlace
-blockIn b k = record { state = k; length = b .length }
+abbrev pub blockInState : BlockPlace → ℕ → BlockPlace
+blockInState b k = record { state = k; length = b .length }
 
 -- number n turns, and its block
 abbrev pub turnedAt : ℕ → Turn → Sender → ℕ → Sender
@@ -32,7 +32,7 @@ turnedAt w t s n =
       channellow = s .channellow;
       channelnext = s .channelnext;
       numbers = set (s .numbers) (n % w) (inState (numberAt w s n) (t .number));
-      blocks = set (s .blocks) (numberAt w s n .channel .0 % w) (blockIn (blockAt w s (numberAt w s n .channel .0)) (t .block));
+      blocks = set (s .blocks) (numberAt w s n .channel .0 % w) (blockInState (blockAt w s (numberAt w s n .channel .0)) (t .block));
     }
 
 -- number n turns if it is pending and chosen

@@ -14,7 +14,7 @@ use Rattle.sender.specs.declared.NumberPlace.{NumberPlace}
 use Rattle.sender.specs.declared.BlockPlace.{BlockPlace}
 use Rattle.sender.specs.declared.Sender.{Sender}
 use Rattle.sender.specs.Record.{isPending, numberPasses, blockPasses, noNumber, noBlock, numbersOf, blocksOf, numberAt, blockAt}
-use Rattle.sender.specs.Turn.{Turn, inState, blockIn, turnedAt, turnOne, turnUpTo, numbersMoved, blocksMoved, turnedOf}
+use Rattle.sender.specs.Turn.{Turn, inState, blockInState, turnedAt, turnOne, turnUpTo, numbersMoved, blocksMoved, turnedOf}
 use Rattle.sender.specs.Facts.{Facts, number-shape, block-shape}
 use Rattle.sender.specs.TurnedWants.{Ending, turn-unchosen, turn-chosen, turn-pending, pending-stands, flying-stands, block-unchosen, block-chosen, blockChosen, chosen-at, chosen-from, not-chosen, wantNumber, wantBlock, want-number, want-number-off, want-block, want-block-off, number-by, block-by, Agree, number-alike, block-alike}
 
@@ -35,8 +35,8 @@ pub record Turned (w cap : ℕ) (t : Turn) (s : Sender) (chosen : ℕ → Bool) 
   pub channelStands : blockPasses (wantBlock w t s chosen (q .channellow .0)) ≡ false
 
 -- chosen by the one or by the other; nothing chosen
-abbrev pub either : (ℕ → Bool) → (ℕ → Bool) → ℕ → Bool
-either f g n = f n || g n
+abbrev pub eitherOf : (ℕ → Bool) → (ℕ → Bool) → ℕ → Bool
+eitherOf f g n = f n || g n
 
 abbrev pub nothing : ℕ → Bool
 nothing n = false
@@ -99,7 +99,7 @@ module _ {w cap : ℕ} {t : Turn} {s : Sender} (e : Ending t) (f : Facts w cap s
       }
 
   -- Only what is chosen among the pending numbers in range matters.
-  pub turning-alike : {chosen : ℕ → Bool} {q : Sender} (also : ℕ → Bool) → Agree w s chosen also → Turning w cap t s chosen q → Turning w cap t s also q
+  turning-alike : {chosen : ℕ → Bool} {q : Sender} (also : ℕ → Bool) → Agree w s chosen also → Turning w cap t s chosen q → Turning w cap t s also q
   turning-alike {chosen} also agree a =
       record {
         firstdata = a .firstdata;
@@ -242,7 +242,7 @@ module _ {w cap : ℕ} {t : Turn} {s : Sender} (e : Ending t) (f : Facts w cap s
         number = inState (numberAt w q m) (t .number)
 
         block : BlockPlace
-        block = blockIn (blockAt w q c) (t .block)
+        block = blockInState (blockAt w q c) (t .block)
 
         number-now : (n : ℕ) → updated m number (wantNumber w t s chosen) n ≡ wantNumber w t s also n
         number-now n =
@@ -276,7 +276,7 @@ module _ {w cap : ℕ} {t : Turn} {s : Sender} (e : Ending t) (f : Facts w cap s
             ⊎-elim
             (λ x. let i = eqb-true d c x in
             updated-at c block (wantBlock w t s chosen) d i
-            ∙ ap (λ (z : BlockPlace). blockIn z (t .block)) (subst (λ (x : ℕ). blockAt w q x ≡ blockAt w s x) (sym ch) (after .2))
+            ∙ ap (λ (z : BlockPlace). blockInState z (t .block)) (subst (λ (x : ℕ). blockAt w q x ≡ blockAt w s x) (sym ch) (after .2))
             ∙ sym (block-chosen t _ (blockAt w s c) chosen-now)
             ∙ sym (want-block w t s also c cu)
             ∙ ap (wantBlock w t s also) (sym i))
@@ -314,7 +314,7 @@ module _ {w cap : ℕ} {t : Turn} {s : Sender} (e : Ending t) (f : Facts w cap s
 
   -- The numbers below b turn.
   module _ {chosen : ℕ → Bool} {q : Sender} (a : Turning w cap t s chosen q) (g : ℕ → Bool) where
-    pub turn-up-to : (i : ℕ) → i ≤ w → Turning w cap t s (upTo chosen g (q .low .0 + i)) (turnUpTo w t g q i)
+    turn-up-to : (i : ℕ) → i ≤ w → Turning w cap t s (upTo chosen g (q .low .0 + i)) (turnUpTo w t g q i)
     unfolding turnUpTo
     turn-up-to zero l =
         turning-alike (upTo chosen g (q .low .0 + 0))
@@ -329,14 +329,14 @@ module _ {w cap : ℕ} {t : Turn} {s : Sender} (e : Ending t) (f : Facts w cap s
         (λ n ne. ap (λ (z : Bool). chosen n || cond z (g n) false) (ltb-next n (q .low .0) i ne))
         (up-to-next (chosen (q .low .0 + i)) (g (q .low .0 + i)) _ _ (lt-ltb (q .low .0 + i) (q .low .0 + suc i) (omega arith)) (le-ltb (q .low .0 + i) (q .low .0 + i) (omega arith)))
 
-    pub turn-all : Turning w cap t s (either chosen g) (turnUpTo w t g q w)
+    pub turn-all : Turning w cap t s (eitherOf chosen g) (turnUpTo w t g q w)
     turn-all =
-        turning-alike (either chosen g)
+        turning-alike (eitherOf chosen g)
         (λ n l u p. ap (λ (z : Bool). chosen n || cond z (g n) false) (lt-ltb n (q .low .0 + w) (omega (arith, a .numbers .from))))
         (turn-up-to w (omega arith))
 
     -- Turning turns what is chosen besides, and both lows move on.
-    pub turned-again : Turned w cap t s (either chosen g) (turnedOf w t g q)
+    pub turned-again : Turned w cap t s (eitherOf chosen g) (turnedOf w t g q)
     unfolding turnedOf numbersMoved blocksMoved
     turned-again =
         let b = turn-all in

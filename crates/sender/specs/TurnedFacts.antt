@@ -16,7 +16,7 @@ use Rattle.sender.specs.Consistent.{consistentOf}
 use Rattle.sender.specs.Turn.{Turn, turnedOf}
 use Rattle.sender.specs.Facts.{Bounds, Out, Done, Carrier, Facts, number-shape, block-shape, consistent-facts, facts-consistent}
 use Rattle.sender.specs.TurnedWants.{Ending, turnNumber, turn-not, turn-unchosen, turn-chosen, turn-channel, turnBlock, block-unchosen, block-chosen, block-length, block-flies, resting, block-rests, blockChosen, chosen-from, not-chosen, wantNumber, wantBlock, want-number, want-number-off, want-block, want-block-off}
-use Rattle.sender.specs.Turned.{Turning, Turned, pending-before, pending-after, block-after, turned-is, turned-only, turned-alike, turned-again, turned-none, either, nothing}
+use Rattle.sender.specs.Turned.{Turning, Turned, pending-before, pending-after, block-after, turned-is, turned-only, turned-none, nothing}
 
 module _ {w cap : ℕ} {t : Turn} {s : Sender} (e : Ending t) (f : Facts w cap s) where
   -- Nothing is wanted from next on, nor from channel next on.
@@ -41,10 +41,10 @@ module _ {w cap : ℕ} {t : Turn} {s : Sender} (e : Ending t) (f : Facts w cap s
     abbrev b : Turning w cap t s chosen q
     b = a .turning
 
-    pub low-from : s .low .0 ≤ q .low .0
+    low-from : s .low .0 ≤ q .low .0
     low-from = b .numbers .from
 
-    pub low-most : q .low .0 ≤ s .next .0
+    low-most : q .low .0 ≤ s .next .0
     low-most = base-high (number-shape (f .some) (f .fits)) (b .numbers) (s .next .0) (f .bounds .next) (number-past chosen (s .next .0) (omega arith))
 
     channel-from : s .channellow .0 ≤ q .channellow .0
@@ -55,7 +55,7 @@ module _ {w cap : ℕ} {t : Turn} {s : Sender} (e : Ending t) (f : Facts w cap s
         base-high (block-shape (f .some) (f .fits)) (b .blocks) (s .channelnext .0) (f .bounds .channelnext) (block-past chosen (s .channelnext .0) (omega arith))
 
     -- The places in range.
-    pub number-held : (n : ℕ) → q .low .0 ≤ n → n < s .next .0 → numberAt w q n ≡ turnNumber t (chosen n) (numberAt w s n)
+    number-held : (n : ℕ) → q .low .0 ≤ n → n < s .next .0 → numberAt w q n ≡ turnNumber t (chosen n) (numberAt w s n)
     number-held n l u =
         b .numbers .holds n l (omega (arith, low-from, f .bounds .room)) ∙ want-number w t s chosen n (omega (arith, f .bounds .room))
 
@@ -237,18 +237,6 @@ turned-keeps w cap t e chosen s lw uw h =
     let f = consistent-facts w cap s lw uw h in facts-consistent w cap (turnedOf w t chosen s) (turned-facts e f (turned-is e f chosen))
 
 module _ (w cap : ℕ) (t : Turn) (e : Ending t) (s : Sender) (lw : 0 < w) (uw : w ≤ cap) (h : consistentOf w cap s ≡ true) where
-  -- Turning twice is turning once by either choice.
-  pub turned-twice : (f g : ℕ → Bool) → turnedOf w t g (turnedOf w t f s) ≡ turnedOf w t (either f g) s
-  turned-twice f g =
-      let k = consistent-facts w cap s lw uw h in turned-only e k (turned-again e k (turned-is e k f .turning) g) (turned-is e k (either f g))
-
-  -- Only what is chosen among the pending numbers in range matters.
-  pub turned-same : (f g : ℕ → Bool) → ((n : ℕ) → s .low .0 ≤ n → n < s .next .0 → isPending (numberAt w s n) ≡ true → f n ≡ g n)
-      → turnedOf w t f s ≡ turnedOf w t g s
-  turned-same f g same =
-      let k = consistent-facts w cap s lw uw h in
-      turned-only e k (turned-alike e k g (λ n l u p. same n l (k .pending n l u p .within) p) (turned-is e k f)) (turned-is e k g)
-
   -- Choosing nothing changes nothing.
   pub turned-nothing : turnedOf w t nothing s ≡ s
   turned-nothing = let k = consistent-facts w cap s lw uw h in turned-only e k (turned-is e k nothing) (turned-none e k)

@@ -15,7 +15,7 @@ use Rattle.sender.specs.declared.NumberPlace.{NumberPlace}
 use Rattle.sender.specs.declared.BlockPlace.{BlockPlace}
 use Rattle.sender.specs.declared.Sender.{Sender}
 use Rattle.sender.specs.Record.{pending, received, lost, inFlight, waiting, acknowledged, isPending, isInFlight, isWaiting, isAcknowledged, numberPasses, blockPasses, noNumber, noBlock, numberAt, blockAt}
-use Rattle.sender.specs.Turn.{Turn, inState, blockIn}
+use Rattle.sender.specs.Turn.{Turn, inState, blockInState}
 use Rattle.sender.specs.Acknowledge.{acknowledging}
 use Rattle.sender.specs.Sweep.{losing}
 
@@ -76,13 +76,13 @@ flying-stands b h = ap (λ (k : ℕ). eqb k acknowledged) (eqb-true (b .state) i
 
 -- A block's place, by whether its number is chosen.
 unfoldable pub turnBlock : Turn → Bool → BlockPlace → BlockPlace
-turnBlock t x b = cond x (blockIn b (t .block)) b
+turnBlock t x b = cond x (blockInState b (t .block)) b
 
 pub block-unchosen : (t : Turn) (x : Bool) (b : BlockPlace) → x ≡ false → turnBlock t x b ≡ b
 unfolding turnBlock
 block-unchosen t x b h = rw h refl
 
-pub block-chosen : (t : Turn) (x : Bool) (b : BlockPlace) → x ≡ true → turnBlock t x b ≡ blockIn b (t .block)
+pub block-chosen : (t : Turn) (x : Bool) (b : BlockPlace) → x ≡ true → turnBlock t x b ≡ blockInState b (t .block)
 unfolding turnBlock
 block-chosen t x b h = rw h refl
 
@@ -194,7 +194,7 @@ module _ (w : ℕ) (t : Turn) (s : Sender) (f g : ℕ → Bool) (agree : Agree w
       (λ ge. want-number-off w t s f n ge ∙ sym (want-number-off w t s g n ge))
       (lt-or-ge n (s .low .0 + w))
 
-  pub chosen-alike : (c : ℕ) → blockChosen w s f c ≡ blockChosen w s g c
+  chosen-alike : (c : ℕ) → blockChosen w s f c ≡ blockChosen w s g c
   chosen-alike c =
       same-bool _ _
       (λ h. let k = chosen-at w s f c h in

@@ -11,7 +11,7 @@ use numbers::ChannelNumber;
 use numbers::DataNumber;
 
 // The longest block that is sent, as a place has its length.
-const LONGEST: u16 = crate::LONGEST_BLOCK as u16;
+const LONGEST_SENT: u16 = crate::LONGEST_BLOCK as u16;
 
 // Is a range in order, its first within opening's range?
 fn range_fits(first: u64, low: u64, next: u64) -> bool
@@ -96,7 +96,7 @@ fn block_wrong(b: BlockPlace, single: bool, past: u8, count: u8) -> bool
     let outside = count <= past;
     let vacant = b.state == crate::VACANT;
     let unfit = vacant | (crate::ACKNOWLEDGED < b.state) | ((b.state == crate::INFLIGHT) & !single);
-    (outside & (!vacant | (b.length != 0))) | (!outside & ((LONGEST < b.length) | unfit))
+    (outside & (!vacant | (b.length != 0))) | (!outside & ((LONGEST_SENT < b.length) | unfit))
 }
 
 // Is the record consistent? A mark for each block that a pending number carries; a second mark for one block refuses.

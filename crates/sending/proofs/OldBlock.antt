@@ -1,29 +1,23 @@
 -- Resend: which block waits, and a law for each way out.
-use Prim.Native.Nat.{ℕ, zero, suc, _+_, _-_, _*_, _%_, _≤_, _<_}
-use mathlib.Core.Bool.{Bool, true, false, cond, not}
+use Prim.Native.Nat.{ℕ, suc, _+_, _-_, _*_, _%_, _≤_, _<_}
+use mathlib.Core.Bool.{Bool, true, false, not}
 use mathlib.Core.Option.{Option, none, some}
-use mathlib.Core.List.{List, [], _∷_}
-use mathlib.Core.Logic.{⊎-elim}
-use mathlib.Core.Path.{_≡_, refl, sym, _∙_, ap, subst}
+use mathlib.Core.List.{List}
+use mathlib.Core.Path.{_≡_, refl, sym, _∙_, ap}
 use native.Mathlib.Omega.{arith}
 use lib.ListN.{length, getD, take, drop, length-take}
-use lib.Dec.{leb}
-use borrow.Author.Tests.{lt-ltb, le-ltb, le-leb, lt-leb, leb-true, eq-eqb, ne-eqb}
+use borrow.Author.Tests.{lt-ltb, le-ltb, le-leb, lt-leb, eq-eqb, ne-eqb}
 use Rattle.common.specs.declared.Written.{Written}
 use Rattle.common.specs.declared.Written.the-variants.{Refused, Wrote}
 use Rattle.common.specs.Answer.{writtenOf, leftOf, written-refused, left-refused, roomAnswer}
 use Rattle.common.specs.Choice.{unless}
-use Rattle.common.specs.Every.{every}
-use Rattle.common.specs.EveryLaws.{all-at, every-at}
-use Rattle.common.specs.Facts.{bool}
 use Rattle.common.specs.Order.{first-here, first-skip}
 use Rattle.numbers.specs.Full.{highest}
 use Rattle.window.specs.Store.{placeSize, storeSize, size-wrong, size-right}
-use Rattle.sender.specs.declared.BlockPlace.{BlockPlace}
 use Rattle.sender.specs.declared.Sender.{Sender}
 use Rattle.sending.specs.declared.Lowest.{Lowest}
 use Rattle.sending.specs.declared.Lowest.the-variants.{Nothing, Block}
-use Rattle.sender.specs.Record.{longestSent, State, isWaiting, isAcknowledged, isInFlight, noBlock, blockAt, contents}
+use Rattle.sender.specs.Record.{longestSent, State, isWaiting, noBlock, blockAt, contents}
 use Rattle.sender.specs.Consistent.{consistentOf, soundOf}
 use Rattle.sender.specs.Send.{dataBytes, sentOf, waitingFrom, lowestWaiting, isNone, resendDatagram, resendAnswer, resendOf}
 use Rattle.sending.specs.Lowest.{lowestOf}
@@ -67,7 +61,7 @@ unfolding optionIn
 option-is none = refl
 option-is (some c) = refl
 
-pub lowest-none : (o : Option ℕ) → Nothing ≡ lowestOf o → isNone o ≡ true
+lowest-none : (o : Option ℕ) → Nothing ≡ lowestOf o → isNone o ≡ true
 unfolding optionIn
 lowest-none o h = ap isNone (sym (ap optionIn h ∙ option-is o))
 

@@ -1,22 +1,19 @@
 -- Taking the block due, a law for each way out.
 use Prim.Native.Nat.{ℕ, _+_, _-_, _*_, _%_, _≤_, _<_}
 use mathlib.Core.Bool.{Bool, true, false, not}
-use mathlib.Core.List.{List, [], _∷_}
+use mathlib.Core.List.{List}
 use mathlib.Core.Path.{_≡_, refl, sym, _∙_, ap}
 use native.Mathlib.Omega.{arith}
-use native.Mathlib.Nat.{add-zero}
-use lib.Dec.{leb}
 use lib.ListN.{length, getD, set, take, drop}
-use borrow.Author.Tests.{lt-ltb, le-ltb, eq-eqb, ne-eqb, leb-true}
+use borrow.Author.Tests.{lt-ltb, le-ltb, eq-eqb, ne-eqb}
 use Rattle.common.specs.Order.{first-here, first-skip, first-none}
-use Rattle.common.specs.Every.{every}
 use Rattle.common.specs.Laid.{Laid, laid-as}
 use Rattle.common.specs.Answer.{writtenOf, leftOf, written-refused, left-refused, written-wrote, left-wrote}
 use Rattle.common.specs.declared.Written.{Written}
 use Rattle.common.specs.declared.Written.the-variants.{Refused, Wrote}
 use Rattle.window.specs.Store.{placeSize}
 use Rattle.receiver.specs.declared.Receiver.{Receiver}
-use Rattle.receiver.specs.Record.{state, isHeld, empty, holdAt, contents}
+use Rattle.receiver.specs.Record.{state, empty, holdAt, contents}
 use Rattle.receiver.specs.Consistent.{consistentOf, soundOf}
 use Rattle.receiver.specs.Take.{takeAnswer, blockDue, receiverTaken, takenOf}
 use Rattle.receiver.specs.Facts.{consistent-facts}

@@ -49,7 +49,7 @@ enough-more n m p (suc k) (suc j) h g =
     ∙ ap (λ (ds : List ℕ). ds ++ ((48 + n % 10) ∷ [])) (p k j (omega arith) (omega arith))
     ∙ sym (digits-more j n m)
 
-pub digits-enough : (n k j : ℕ) → n < k → n < j → digitsBy k n ≡ digitsBy j n
+digits-enough : (n k j : ℕ) → n < k → n < j → digitsBy k n ≡ digitsBy j n
 digits-enough = by-digits Enough enough-small enough-more
 
 -- one step of the number's digits
@@ -127,7 +127,7 @@ decimal-digits =
     (λ n h. rw (decimal-small n h) (digit {d = 48 + n} (omega arith) (omega arith) nil))
     (λ n h p. rw (decimal-more n h) (digits-snoc (48 + n % 10) p (omega arith) (omega arith)))
 
-pub digits-at : {ds : List ℕ} → Digits ds → (i : ℕ) → i < length ds → (48 ≤ getD ds i 0) × (getD ds i 0 ≤ 57)
+digits-at : {ds : List ℕ} → Digits ds → (i : ℕ) → i < length ds → (48 ≤ getD ds i 0) × (getD ds i 0 ≤ 57)
 digits-at nil i h = absurd (omega arith)
 digits-at (digit a b p) zero h = (a, b)
 digits-at (digit a b p) (suc i) h = digits-at p i (omega arith)
@@ -145,7 +145,7 @@ leads-more n h p z =
       List·getD-append (decimalOf (n / 10)) ((48 + n % 10) ∷ []) 0 0 (decimal-some (n / 10)),
     )
 
-pub decimal-leads : (n : ℕ) → 0 < n → 49 ≤ getD (decimalOf n) 0 0
+decimal-leads : (n : ℕ) → 0 < n → 49 ≤ getD (decimalOf n) 0 0
 decimal-leads = by-digits Leads (λ n h z. rw (decimal-small n h) (omega arith)) leads-more
 
 -- so `0` comes first only where it is the only digit

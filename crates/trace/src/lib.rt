@@ -41,7 +41,7 @@ pub const TAKE: u8 = 4;
 
 pub const SWEEP: u8 = 5;
 
-pub const ACK: u8 = 6;
+pub const ACKNOWLEDGE: u8 = 6;
 
 // The byte that ends a line.
 pub const NEWLINE: u8 = 10;

@@ -43,7 +43,7 @@ fn kind_named(line: &[u8]) -> u8
         return trace::SWEEP;
     }
     if trace_words::equals(line, b"kind=ack") {
-        return trace::ACK;
+        return trace::ACKNOWLEDGE;
     }
     0
 }

@@ -118,7 +118,7 @@ fn writable(kind: u8, size: usize) -> bool
     if kind < trace::IN {
         return false;
     }
-    if trace::ACK < kind {
+    if trace::ACKNOWLEDGE < kind {
         return false;
     }
     if trace::has_data(kind) {

@@ -91,7 +91,7 @@ module _ (w : ℕ) where
       (λ (e : turning chosen q n ≡ false). rw e h)
       (bool (turning chosen q n))
 
-  pub turn-lows : (t : Turn) (chosen : ℕ → Bool) (s : Sender) (i : ℕ) → Lows s (turnUpTo w t chosen s i)
+  turn-lows : (t : Turn) (chosen : ℕ → Bool) (s : Sender) (i : ℕ) → Lows s (turnUpTo w t chosen s i)
   unfolding turnUpTo
   turn-lows t chosen s zero = record { low = refl; channellow = refl }
   turn-lows t chosen s (suc i) = one-lows t chosen s _ (s .low .0 + i) (turn-lows t chosen s i)
@@ -102,16 +102,16 @@ module _ (w : ℕ) where
   unfolding numbersMoved slid
   numbers-more k j q at e a t = rw (e, a, t) refl
 
-  pub numbers-stop : (k : ℕ) (q : Sender) → numberPasses (numberAt w q (q .low .0)) ≡ false → q ≡ numbersMoved w k q
+  numbers-stop : (k : ℕ) (q : Sender) → numberPasses (numberAt w q (q .low .0)) ≡ false → q ≡ numbersMoved w k q
   unfolding numbersMoved slid
   numbers-stop zero q t = refl
   numbers-stop (suc k) q t = rw t refl
 
-  pub numbers-end : (k : ℕ) (q : Sender) → k ≡ 0 → q ≡ numbersMoved w k q
+  numbers-end : (k : ℕ) (q : Sender) → k ≡ 0 → q ≡ numbersMoved w k q
   unfolding numbersMoved slid
   numbers-end k q e = rw e refl
 
-  pub numbers-channellow : (k : ℕ) (q : Sender) → numbersMoved w k q .channellow .0 ≡ q .channellow .0
+  numbers-channellow : (k : ℕ) (q : Sender) → numbersMoved w k q .channellow .0 ≡ q .channellow .0
   unfolding numbersMoved
   numbers-channellow k q = refl
 

@@ -21,7 +21,7 @@ use Rattle.vector.specs.Rule.{one, alike, runOf, mapOf, byteOf, coversOf
 
 -- THE BITS OF A MAP
 
-pub bits-length : (k m : ℕ) → length (bitsOf k m) ≡ k
+bits-length : (k m : ℕ) → length (bitsOf k m) ≡ k
 unfolding bitsOf
 bits-length zero m = refl
 bits-length (suc k) m = ap suc (bits-length k (m / 2))
@@ -87,14 +87,6 @@ missing-run b s n e t = rw (← e, t) (sym (count-none n))
 pub received-map : (b m : ℕ) → Map m ≡ saysOf b → countOf (bitsOf 7 m) ≡ receivedIn b
 unfolding receivedIn statesIn
 received-map b m e = rw (← e) refl
-
-pub span-at-most : (b : ℕ) → b < 256 → length (statesIn (saysOf b)) ≤ 63
-unfolding saysOf statesIn
-span-at-most b h = go (bitOf b 7)
-  where
-    go : (t : Bool) → length (statesIn (cond t (Run (bitOf b 6) (b % 64)) (Map (b % 128)))) ≤ 63
-    go true = omega (arith, length-replicate (b % 64) (bitOf b 6))
-    go false = omega (arith, bits-length 7 (b % 128))
 
 -- THE RUN FROM A PLACE
 

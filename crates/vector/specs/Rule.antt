@@ -5,7 +5,6 @@ use mathlib.Core.Bool.{Bool, cond, not}
 use mathlib.Core.List.{List, [], _∷_}
 use lib.ListN.{length, take, drop}
 use lib.Dec.{ltb}
-use Rattle.common.specs.Order.{first}
 use Rattle.common.specs.Answer.{roomAnswer}
 
 abbrev pub one : Bool → ℕ

@@ -10,7 +10,7 @@ use borrow.Author.Tests.{lt-ltb, le-ltb}
 use Rattle.common.specs.Every.{allBelow}
 use Rattle.common.specs.EveryLaws.{all-at, all-from}
 use Rattle.common.specs.Facts.{lt-or-ge, leb-not, same-bool}
-use Rattle.window.specs.Places.{numberAt, number-at, pastOf, past-is}
+use Rattle.window.specs.Places.{numberFrom, number-at, pastOf, past-is}
 
 -- how many of the w numbers from a on lie below e
 abbrev pub countOf : ℕ → ℕ → ℕ → ℕ
@@ -23,8 +23,8 @@ all-placed w b p q e = same-bool (allBelow p w) (allBelow q w) (λ t. all-from q
     placed : allBelow p w ≡ true → (j : ℕ) → j < w → q j ≡ true
     placed t j l =
         let (lo, up, at) = number-at w b j l in
-        let k : b + (numberAt w b j - b) ≡ numberAt w b j = omega arith in
-        ap q (sym (ap (λ (n : ℕ). n % w) k ∙ at)) ∙ sym (e (numberAt w b j - b) (omega arith)) ∙ all-at p w t (numberAt w b j - b) (omega arith)
+        let k : b + (numberFrom w b j - b) ≡ numberFrom w b j = omega arith in
+        ap q (sym (ap (λ (n : ℕ). n % w) k ∙ at)) ∙ sym (e (numberFrom w b j - b) (omega arith)) ∙ all-at p w t (numberFrom w b j - b) (omega arith)
 
     numbered : allBelow q w ≡ true → (i : ℕ) → i < w → p i ≡ true
     numbered t i l = e i l ∙ all-at q w t ((b + i) % w) (mod-lt (b + i) (omega arith))

@@ -29,11 +29,11 @@ place-same w b n m ln un lm um e =
     (lt-or-ge n m)
 
 -- the number from b on whose place is i
-unfoldable pub numberAt : ℕ → ℕ → ℕ → ℕ
-numberAt w b i = cond (ltb i (b % w)) (suc (b / w) * w + i) (b / w * w + i)
+unfoldable pub numberFrom : ℕ → ℕ → ℕ → ℕ
+numberFrom w b i = cond (ltb i (b % w)) (suc (b / w) * w + i) (b / w * w + i)
 
-pub number-at : (w b i : ℕ) → i < w → (b ≤ numberAt w b i) × (numberAt w b i < b + w) × (numberAt w b i % w ≡ i)
-unfolding numberAt
+pub number-at : (w b i : ℕ) → i < w → (b ≤ numberFrom w b i) × (numberFrom w b i < b + w) × (numberFrom w b i % w ≡ i)
+unfolding numberFrom
 number-at w b i h =
     let db = div-add-mod' b w in
     let s = suc-mul (b / w) w in
@@ -79,7 +79,7 @@ getD-tabulate (suc n) f (suc i) d h = getD-tabulate n (λ j. f (suc j)) i d (le-
 
 -- cap places, of which w are in use, hold f of the numbers from b on
 unfoldable pub spread : {A : Type 0} → A → ℕ → ℕ → ℕ → (ℕ → A) → List A
-spread blank w cap b f = tabulate cap (λ i. cond (ltb i w) (f (numberAt w b i)) blank)
+spread blank w cap b f = tabulate cap (λ i. cond (ltb i w) (f (numberFrom w b i)) blank)
 
 -- A list of one value has it everywhere.
 pub always : {A : Type 0} (n i : ℕ) (a : A) → getD (replicate n a) i a ≡ a

@@ -13,7 +13,7 @@ use lib.Seq.{getD-set-same, getD-set-other, ext-getD}
 use borrow.Author.Tests.{lt-ltb, le-ltb, eqb-true, eqb-false, eq-eqb, ne-eqb}
 use Rattle.common.specs.Facts.{lt-or-ge, bool, clash}
 use Rattle.window.specs.Window.{Win, here, put, passed, cleared, lifted, slid}
-use Rattle.window.specs.Places.{place-same, numberAt, number-at, tabulate, length-tabulate, getD-tabulate, spread}
+use Rattle.window.specs.Places.{place-same, numberFrom, number-at, tabulate, length-tabulate, getD-tabulate, spread}
 use Rattle.window.specs.Free.{free, free-is}
 
 -- w places are in use, of cap; a blank one does not pass
@@ -151,7 +151,7 @@ module _ {A : Type 0} {blank : A} {w cap : ℕ} {pass : A → Bool} (k : Shape b
       → (n : ℕ) → here blank w r n ≡ blank
   all-blank {r = r} h f n =
       let (l, u, e) = number-at w (r .base) (n % w) (mod-lt n (k .some)) in
-      ap (λ (i : ℕ). getD (r .places) i blank) (sym e) ∙ h .holds (numberAt w (r .base) (n % w)) l u ∙ f (numberAt w (r .base) (n % w)) l
+      ap (λ (i : ℕ). getD (r .places) i blank) (sym e) ∙ h .holds (numberFrom w (r .base) (n % w)) l u ∙ f (numberFrom w (r .base) (n % w)) l
 
   -- All below v is left behind, however far v lies.
   pub lift-weak : {lo : ℕ} {want : ℕ → A} {r : Win A} (v : ℕ) → Weak blank w cap pass lo want r
@@ -232,14 +232,14 @@ module _ {A : Type 0} {blank : A} {w cap : ℕ} {pass : A → Bool} (k : Shape b
       ⊎-elim used spare (lt-or-ge i w) ∙ sym (getD-tabulate cap f i blank (omega (arith, h .size)))
     where
       f : ℕ → A
-      f i = cond (ltb i w) (want (numberAt w (r .base) i)) blank
+      f i = cond (ltb i w) (want (numberFrom w (r .base) i)) blank
 
       used : {i : ℕ} → i < w → getD (r .places) i blank ≡ f i
       used {i} lt =
           let (l, u, e) = number-at w (r .base) i lt in
           ap (λ (j : ℕ). getD (r .places) j blank) (sym e)
-          ∙ h .holds (numberAt w (r .base) i) l u
-          ∙ sym (ap (λ (x : Bool). cond x (want (numberAt w (r .base) i)) blank) (lt-ltb i w lt))
+          ∙ h .holds (numberFrom w (r .base) i) l u
+          ∙ sym (ap (λ (x : Bool). cond x (want (numberFrom w (r .base) i)) blank) (lt-ltb i w lt))
 
       spare : {i : ℕ} → w ≤ i → getD (r .places) i blank ≡ f i
-      spare {i} ge = h .spare i ge ∙ sym (ap (λ (x : Bool). cond x (want (numberAt w (r .base) i)) blank) (le-ltb i w ge))
+      spare {i} ge = h .spare i ge ∙ sym (ap (λ (x : Bool). cond x (want (numberFrom w (r .base) i)) blank) (le-ltb i w ge))

@@ -28,7 +28,7 @@ pub part-before : (d : List ℕ) (at n : ℕ) → 1 ≤ at → at ≤ 7 → n �
 unfolding partOf
 part-before d at n h l s = sym (ap (take n) (from-there d at h l) ∙ take-set-le n (drop at d) (7 - at) (getD d 0 0) s)
 
-pub part-over : (d : List ℕ) (at n : ℕ) → 1 ≤ at → at ≤ 7 → 7 - at < n → set (take n (drop at d)) (7 - at) (getD d 0 0) ≡ partOf d at n
+part-over : (d : List ℕ) (at n : ℕ) → 1 ≤ at → at ≤ 7 → 7 - at < n → set (take n (drop at d)) (7 - at) (getD d 0 0) ≡ partOf d at n
 unfolding partOf
 part-over d at n h l s = sym (ap (take n) (from-there d at h l) ∙ take-set-lt n (drop at d) (7 - at) (getD d 0 0) s)
 

@@ -95,6 +95,10 @@ pub record Places (p : List ℕ) (f at1 at2 at3 at4 at5 at6 : ℕ) : Type 0 wher
   pub number : at5 ≡ numberEnd p f
   pub vector : at6 ≡ vectorEnd p f
 
+-- "The endpoint writes LogWindowSize 5"
+abbrev pub logWindow : ℕ
+logWindow = 5
+
 -- what is absent is 0
 abbrev pub noAck : Ack
 noAck = record { number = 0; time = 0; gap = 0; count = 0; scale = 0 }

@@ -5,7 +5,7 @@ pub mod bits;
 pub mod reader;
 
 // The longest and the shortest datagram.
-pub const LONGEST: usize = 1232;
+pub const LONGEST_DATAGRAM: usize = 1232;
 
 // The LogWindowSize that an endpoint writes.
 pub const LOGWINDOW: u8 = 5;

@@ -321,7 +321,7 @@ pub fn read(d: &[u8]) -> Reading
     if n < crate::SHORTEST {
         return Reading::Refused(1);
     }
-    if crate::LONGEST < n {
+    if crate::LONGEST_DATAGRAM < n {
         return Reading::Refused(1);
     }
     let prefix = byte_at(d, 0);

@@ -26,7 +26,7 @@ pub zeros-length : (n m : ℕ) → n ≤ m → n ≡ length (take n (replicate {
 zeros-length n m h = sym (ap length (take-zeros n m h) ∙ length-replicate n 0)
 
 -- the exchange stays within the first eight bytes
-pub swapped-append : (q t : List ℕ) → 8 ≤ length q → swapped (q ++ t) ≡ swapped q ++ t
+swapped-append : (q t : List ℕ) → 8 ≤ length q → swapped (q ++ t) ≡ swapped q ++ t
 unfolding swapped
 swapped-append q t h =
     let e7 : getD (q ++ t) 7 0 ≡ getD q 7 0 = List·getD-append q t 0 7 (omega arith) in

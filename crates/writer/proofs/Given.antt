@@ -8,10 +8,10 @@ use Rattle.common.specs.Choice.{when, unless}
 use Rattle.common.specs.Laid.{Laid, laid-as, laid-nothing}
 use Rattle.wire.specs.Write.{given}
 
-pub given-on : (flag : Bool) (b : List ℕ) → flag ≡ true → b ≡ given flag b
+given-on : (flag : Bool) (b : List ℕ) → flag ≡ true → b ≡ given flag b
 given-on flag b t = when flag b b [] t refl
 
-pub given-off : (flag : Bool) (b : List ℕ) → flag ≡ false → [] ≡ given flag b
+given-off : (flag : Bool) (b : List ℕ) → flag ≡ false → [] ≡ given flag b
 given-off flag b t = unless flag [] b [] t refl
 
 pub given-room : (flag : Bool) (b : List ℕ) (at n : ℕ) → flag ≡ true → at + length (given flag b) ≤ n → at + length b ≤ n

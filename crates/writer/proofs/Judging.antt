@@ -22,7 +22,7 @@ pub record ValuesFit (v : Values) (n m : ℕ) : Type 0 where
   pub ack : both (ackIn (v .flags)) (ackWide (v .ack) n) ≡ false
   pub vector : both (vectorIn (v .flags)) (vectorWide (v .vector) m) ≡ false
 
-pub values-past : (v : Values) (n m : ℕ) (ts : List Test) → 0 ≡ first (valueTests v n m ++ ts) → ValuesFit v n m × (0 ≡ first ts)
+values-past : (v : Values) (n m : ℕ) (ts : List Test) → 0 ≡ first (valueTests v n m ++ ts) → ValuesFit v n m × (0 ≡ first ts)
 values-past v n m ts h =
     let (a, h1) = first-pass (outside (v .flags)) 4 _ (omega arith) h in
     let (b, h2) = first-pass (both (ackIn (v .flags)) (vectorIn (v .flags))) 5 _ (omega arith) h1 in
@@ -54,12 +54,12 @@ few-flags f h = let e = eqb-true f (sixOf f) (not-false (eqb f (sixOf f)) h) in 
 
 module _ (v : Values) (a x b : List ℕ) (room : ℕ) where
   -- past the values' tests the datagram's length decides
-  pub answer-past : ValuesFit v (length a) (length x) → first (sizeTests (length (datagramOf v a x b)) room) ≡ writeAnswer v a x b room
+  answer-past : ValuesFit v (length a) (length x) → first (sizeTests (length (datagramOf v a x b)) room) ≡ writeAnswer v a x b room
   unfolding writeAnswer
   answer-past f =
       first-skip _ _ _ (f .vector) ∙ first-skip _ _ _ (f .ack) ∙ first-skip _ _ _ (f .window) ∙ first-skip _ _ _ (f .acks) ∙ first-skip _ _ _ (f .others)
 
-  pub judged-refused : (n : ℕ) → n ≡ writeAnswer v a x b room → (n ≡ 0 → ⊥) → Refused n ≡ judgedOf v a x b room
+  judged-refused : (n : ℕ) → n ≡ writeAnswer v a x b room → (n ≡ 0 → ⊥) → Refused n ≡ judgedOf v a x b room
   unfolding judgedOf
   judged-refused n e h = rw (← e, ne-eqb n 0 h) refl
 

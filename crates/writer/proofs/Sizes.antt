@@ -17,7 +17,7 @@ use Rattle.wire.specs.Round.Framing.{framed-length}
 use Rattle.writer.proofs.Widths.{ack-fits, vector-fits, ack-length, vector-length, front-length, back-length, packet-parts}
 
 -- bytes where they are flagged, by their length
-pub given-size : (b : Bool) (x : List ℕ) (n : ℕ) → length x ≡ n → length (given b x) ≡ sized b n
+given-size : (b : Bool) (x : List ℕ) (n : ℕ) → length x ≡ n → length (given b x) ≡ sized b n
 given-size true x n e = e
 given-size false x n e = refl
 

@@ -291,12 +291,12 @@ fn judge(v: Values, additions: &[u8], vector: &[u8], body: &[u8], room: usize) -
         return Judged::Refused(refusal);
     }
     let block = bits::size_if(bits::flag(v.flags, wire::DATA), body.len());
-    if wire::LONGEST < block {
+    if wire::LONGEST_DATAGRAM < block {
         return Judged::Refused(10);
     }
     let k = packet_size(v, additions, vector, body);
     let n = datagram_size(k);
-    if wire::LONGEST < n {
+    if wire::LONGEST_DATAGRAM < n {
         return Judged::Refused(10);
     }
     if room < n {

@@ -1,5 +1,5 @@
 -- The facts of the record that each accepted call leaves.
-use Prim.Native.Nat.{ℕ, _+_, _-_, _*_, _%_, _≤_, _<_}
+use Prim.Native.Nat.{ℕ, _+_, _-_, _%_, _≤_, _<_}
 use mathlib.Core.Bool.{Bool, true, false, cond}
 use mathlib.Core.Logic.{⊎-elim}
 use mathlib.Core.Path.{_≡_, refl, sym, _∙_, ap, subst}
@@ -29,7 +29,7 @@ pub record Firsts (n c b e d : ℕ) : Type 0 where
   pub endFrom : n ≤ e
   pub dueFrom : c ≤ d
 
-pub facts-firsts : {w cap : ℕ} {r : Receiver} → Facts w cap r
+facts-firsts : {w cap : ℕ} {r : Receiver} → Facts w cap r
     → Firsts (r .firstdata .0) (r .firstchannel .0) (r .base .0) (r .end .0) (r .due .0)
 facts-firsts k =
     record { firstData = k .firstData; firstChannel = k .firstChannel; baseFrom = k .baseFrom; endFrom = k .endFrom; dueFrom = k .dueFrom }

@@ -12,7 +12,7 @@ use Rattle.numbers.specs.declared.Widened.the-variants.{At, Below}
 use Rattle.numbers.specs.Widen.{widenOf}
 use Rattle.numbers.specs.Nearest.{Near, widen-near, widen-only}
 use Rattle.wire.specs.declared.Values.{Values}
-use Rattle.wire.specs.declared.Packet.{Packet as Taken}
+use Rattle.wire.specs.declared.Packet.{Packet as WirePacket}
 use Rattle.wire.specs.declared.Reading.the-variants.{Read}
 use Rattle.wire.specs.Flags.{dataIn, aoaIn}
 use Rattle.wire.specs.Frame.{wordAt, swapped}
@@ -38,13 +38,13 @@ word-small : (flag : Bool) (p : List ℕ) (at : ℕ) → Bytes p → sized flag 
 word-small true p at small = omega (arith, small at, small (at + 1))
 word-small false p at small = omega arith
 
-pub read-words : (d : List ℕ) (p : Taken) → Bytes d → readOf d ≡ Read p → Words (p .values)
+read-words : (d : List ℕ) (p : WirePacket) → Bytes d → readOf d ≡ Read p → Words (p .values)
 unfolding packetOf valuesOf
 read-words d p small e =
     let (facts, same) = read-found d p e in
     let q : List ℕ = swapped d in
     let f : ℕ = flagsOf q in
-    subst (λ (x : Taken). Words (x .values)) same
+    subst (λ (x : WirePacket). Words (x .values)) same
     (record {
       number = word-small (dataIn f) q (aoaEnd q f) (swapped-small d small);
       channel = word-small (dataIn f) q (vectorEnd q f) (swapped-small d small);

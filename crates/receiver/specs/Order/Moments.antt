@@ -1,6 +1,6 @@
 -- What every moment of a history of demand 3's set has in common: which numbers and blocks came tells what the record is and what the
 -- store holds, so each datagram of the set is accepted, and each take hands over the block due or nothing.
-use Prim.Native.Nat.{ℕ, _+_, _*_, _≤_, _<_, max}
+use Prim.Native.Nat.{ℕ, _+_, _≤_, _<_, max}
 use mathlib.Core.Bool.{Bool, true, false, cond}
 use mathlib.Core.List.{List, [], _∷_, map, List·Memᴰ·head, List·Memᴰ·tail}
 use mathlib.Core.Logic.{_⊎_, inl, inr, ⊎-elim}
