@@ -1,125 +1,139 @@
-// Runs the endpoint's own two calls on both sides of their boundaries: opening, and a datagram that concerns both halves.
-mod calls;
+// Runs the endpoint's own two calls by a script, on both sides of their boundaries: opening, and a datagram that concerns both halves. Shows one
+// line for each call: its name, the sum of the receiver's store where the call was lent it, the answer, and both records as the call left them. The calls are `open`, `send`
+// (a new block, so that there is something to acknowledge), `in` (a packet with these values arrives) and `bytes` (these bytes arrive).
+use receiver::Receiver;
+use sender::Sender;
 
-use calls::Pair;
-
-// Both sides of each bound of opening.
-fn openings() {
-    calls::opens(b"first data number 65535:", 65535, 0, 300);
-    calls::opens(b"first data number 65536:", 65536, 0, 300);
-    calls::opens(b"first channel number 65535:", 0, 65535, 300);
-    calls::opens(b"first channel number 65536:", 0, 65536, 300);
-    calls::opens(b"timeout of 299:", 0, 0, 299);
-    calls::opens(b"timeout of 300:", 0, 0, 300);
-    calls::opens(b"timeout of 60000:", 0, 0, 60000);
-    calls::opens(b"timeout of 60001:", 0, 0, 60001);
+// The two records of an endpoint.
+struct Pair {
+    sender: Sender,
+    receiver: Receiver,
 }
 
-// An endpoint that has sent numbers 0 and 1.
-fn outset(sent: &mut [u8]) -> Pair {
-    let p = calls::opens(b"open:", 0, 0, 300);
-    let q = calls::sends(p, sent);
-    calls::sends(q, sent)
+// The answer and both records.
+fn left(answer: u8, p: Pair) {
+    showing::number(b" answer=", answer as u64);
+    io::write_all(1, b" sender");
+    showing_records::sender(p.sender);
+    io::write_all(1, b" receiver");
+    showing_records::receiver(p.receiver);
+    io::write_all(1, b"\n");
 }
 
-// What one half refuses changes neither.
-fn refused(p: Pair, store: &mut [u8]) {
-    calls::packet(
-        b"an ACK of 2, never sent, with good data:",
-        p,
-        store,
-        0x005,
-        2,
-        0,
-        0,
+// Opens an endpoint.
+fn opens(line: &[u8]) -> Pair {
+    let o = endpoint::open(
+        script_packets::long(line, b"firstdata="),
+        script_packets::long(line, b"firstchannel="),
+        script_packets::long(line, b"timeout="),
     );
-    calls::packet(b"a good ACK with number 32:", p, store, 0x005, 1, 32, 0);
+    let s = o.sender;
+    let r = o.receiver;
+    let p = Pair {
+        sender: s,
+        receiver: r,
+    };
+    left(o.answer, p);
+    p
 }
 
-// Both halves would refuse: 8 comes first. Two acknowledgements in one packet are 5.
-fn twice(p: Pair, store: &mut [u8]) {
-    calls::packet(b"an ACK of 2 with number 32:", p, store, 0x005, 2, 32, 0);
-    calls::arrives(
-        b"ACK and ACKVEC:",
-        p,
-        store,
-        b"\x00\x09\x50\x00\x00\x00\x00\x00\x00\x00\x00\x00\x00",
+// Sends a new block, with a store of its own: none is sent again here.
+fn sends(p: Pair, line: &[u8]) -> Pair {
+    let mut sent = [0u8; window::STORE];
+    let mut out = [0u8; 64];
+    let mut block = [0u8; 32];
+    let n = script::bytes(line, b"block=", &mut block);
+    let got = sending::send(
+        p.sender,
+        &mut sent,
+        script_packets::long(line, b"tick="),
+        &block[..n],
+        &mut out,
     );
+    let s = got.sender;
+    let r = p.receiver;
+    let q = Pair {
+        sender: s,
+        receiver: r,
+    };
+    left(0, q);
+    q
 }
 
-// What is accepted, by one half or by both.
-fn accepted(p: Pair, store: &mut [u8]) -> Pair {
-    let q = calls::packet(b"an ACK of 0 with number 1:", p, store, 0x005, 0, 1, 1);
-    calls::packet(b"an ACK of 1 alone:", q, store, 0x001, 1, 0, 0)
+// A datagram arrives.
+fn receives(p: Pair, store: &mut [u8], d: &[u8]) -> Pair {
+    let got = endpoint::receive(p.sender, p.receiver, store, d);
+    let s = got.sender;
+    let r = got.receiver;
+    let q = Pair {
+        sender: s,
+        receiver: r,
+    };
+    showing::sum(b" store=", store, store.len());
+    left(got.answer, q);
+    q
 }
 
-// What has no effect of its own.
-fn quiet(p: Pair, store: &mut [u8]) {
-    calls::packet(
-        b"data with OverheadSize and DelayAckInfo:",
-        p,
-        store,
-        0x144,
-        0,
-        0,
-        0,
-    );
-    calls::packet(
-        b"OverheadSize and DelayAckInfo alone:",
-        p,
-        store,
-        0x140,
-        0,
-        0,
-        0,
-    );
+// A packet with these values arrives, with the store or a part of it.
+fn arrives(p: Pair, store: &mut [u8], line: &[u8]) -> Pair {
+    let mut d = [0u8; 1232];
+    let n = script_packets::make(line, &mut d);
+    let size = script::lent(line, b"store=", window::STORE, 39201);
+    if store.len() < size {
+        return p;
+    }
+    receives(p, &mut store[..size], &d[..n])
 }
 
-// A dummy, and a datagram too short.
-fn bare(p: Pair, store: &mut [u8]) {
-    calls::arrives(
-        b"a dummy:",
-        p,
-        store,
-        b"\x01\x02\x03\x04\x05\x06\x07\x10\x08",
-    );
-    calls::arrives(b"seven bytes:", p, store, b"\x01\x02\x03\x04\x05\x06\x07");
+// These bytes arrive, with the store or a part of it.
+fn bytes(p: Pair, store: &mut [u8], line: &[u8]) -> Pair {
+    let mut d = [0u8; 1233];
+    let n = script::bytes(line, b"bytes=", &mut d);
+    let size = script::lent(line, b"store=", window::STORE, 39201);
+    if store.len() < size {
+        return p;
+    }
+    receives(p, &mut store[..size], &d[..n])
 }
 
-// A store of one byte too few, and a refused opening's records.
-fn unfit(p: Pair, store: &mut [u8]) {
-    let mut short = [0u8; 39199];
-    calls::packet(b"a store of 39199 bytes:", p, &mut short, 0x004, 0, 0, 0);
-    calls::packet(
-        b"the records of a refused opening:",
-        calls::opens(b"timeout of 0:", 0, 0, 0),
-        store,
-        0x004,
-        0,
-        0,
-        0,
-    );
+// One line of the script.
+fn run(p: Pair, store: &mut [u8], line: &[u8]) -> Pair {
+    script::name(line);
+    let call = script::call(line);
+    if call == b'o' {
+        return opens(line);
+    }
+    if call == b's' {
+        return sends(p, line);
+    }
+    if call == b'i' {
+        return arrives(p, store, line);
+    }
+    bytes(p, store, line)
 }
 
-// What is refused by one half or by both.
-fn refusals(p: Pair, store: &mut [u8]) {
-    refused(p, store);
-    twice(p, store);
+// The records before the first line.
+fn begin() -> Pair {
+    Pair {
+        sender: sender::opened(0, 0, 300),
+        receiver: receiver::opened(0, 0),
+    }
 }
 
-// What changes nothing of the other half.
-fn others(p: Pair, store: &mut [u8]) {
-    quiet(p, store);
-    bare(p, store);
+// Every line of the script.
+fn runs(text: &[u8], store: &mut [u8]) {
+    let mut p = begin();
+    let mut from = 0;
+    while from < text.len() {
+        let end = script::end(text, from);
+        p = run(p, store, &text[from..end]);
+        from = end + 1;
+    }
 }
 
 fn main() {
-    let mut store = [0u8; 39200];
-    let mut sent = [0u8; 39200];
-    openings();
-    let p = outset(&mut sent);
-    refusals(p, &mut store);
-    let q = accepted(p, &mut store);
-    others(q, &mut store);
-    unfit(q, &mut store);
+    let mut store = [0x55u8; 39201];
+    let mut text = [0u8; 16384];
+    let n = io::read_full(0, &mut text);
+    runs(&text[..n], &mut store);
 }

@@ -1,4 +1,5 @@
-// The blocks that go over the channel. Block k begins with k itself, so that no two are alike, and is 4 to 40 bytes long.
+// The blocks that go over the channel. Block k begins with k itself, so that no two are alike, goes on with
+// bytes that differ by their place, and is 4 to 40 bytes long.
 
 // How many bytes block k has.
 fn length(k: u32) -> usize {
@@ -16,7 +17,7 @@ fn byte(k: u32, i: usize) -> u8 {
     if i == 2 {
         return (k / 65536 % 256) as u8;
     }
-    (k / 16777216) as u8
+    ((k as u64 % 251 + i as u64 % 251) % 251) as u8
 }
 
 // Writes block k, and answers its length.

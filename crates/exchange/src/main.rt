@@ -1,5 +1,5 @@
 // Two endpoints send each other blocks over a channel that loses, doubles, delays and reorders by a fixed rule. Shows for each end what was
-// sent, lost, sent again and handed over, and whether every block was handed over once and in order.
+// sent, lost, sent again and handed over, its records at the end, and whether every block was handed over once and in order.
 mod blocks;
 mod channel;
 mod ends;
@@ -12,23 +12,31 @@ const BLOCKS: u32 = 20000;
 // How many ticks they have for it.
 const STEPS: u32 = 1000000;
 
-// A word and a number.
-fn number(word: &[u8], n: u32) {
-    io::write_all(1, word);
-    io::print_decimal(1, n as u64);
+// A word and a count.
+fn count(word: &[u8], n: u32) {
+    showing::number(word, n as u64);
 }
 
-// One end's line.
+// What one end counted.
+fn counts(e: End) {
+    count(b" sent=", e.sent);
+    count(b" covered=", e.covered);
+    count(b" lost=", e.lost);
+    count(b" resent=", e.resent);
+    count(b" doubled=", e.doubled);
+    count(b" refused=", e.refused);
+    count(b" handed=", e.handed);
+    count(b" wrong=", e.wrong);
+}
+
+// What one end counted, and its records.
 fn shown(name: &[u8], e: End) {
     io::write_all(1, name);
-    number(b" sent=", e.sent);
-    number(b" covered=", e.covered);
-    number(b" lost=", e.lost);
-    number(b" resent=", e.resent);
-    number(b" doubled=", e.doubled);
-    number(b" refused=", e.refused);
-    number(b" handed=", e.handed);
-    number(b" wrong=", e.wrong);
+    counts(e);
+    io::write_all(1, b"\nsender");
+    showing_records::sender(e.sender);
+    io::write_all(1, b"\nreceiver");
+    showing_records::receiver(e.receiver);
     io::write_all(1, b"\n");
 }
 
@@ -55,7 +63,7 @@ fn finished(here: End, there: End) -> bool {
 
 // What both ends show.
 fn report(steps: u32, here: End, there: End) {
-    number(b"ticks=", steps);
+    count(b"ticks=", steps);
     io::write_all(1, b"\n");
     shown(b"here:", here);
     shown(b"there:", there);

@@ -1,5 +1,5 @@
-// One set of 32 packets arrives in several orders, with repeats and with takes between. Shows for each order what was accepted and handed
-// over, and the receiver's record at the end: it is the same for all.
+// One set of 32 packets arrives in several orders, with repeats and with takes between. Shows for each order the blocks that were handed over, how
+// many packets were accepted, and both records at the end: they are the same for all.
 mod packets;
 
 use common::Written;
@@ -12,12 +12,6 @@ struct Run {
     receiver: Receiver,
     accepted: u32,
     refused: u32,
-}
-
-// A word and a number.
-fn number(word: &[u8], n: u64) {
-    io::write_all(1, word);
-    io::print_decimal(1, n);
 }
 
 // One more.
@@ -51,12 +45,6 @@ fn packet(r: Run, store: &mut [u8], k: u32) -> Run {
     arrives(r, store, &datagram, n)
 }
 
-// A block that was handed over: its first byte and its length.
-fn handed(first: u8, n: usize) {
-    number(b" ", first as u64);
-    number(b":", n as u64);
-}
-
 // Takes the block due, if it is held.
 fn takes(r: Run, store: &[u8]) -> Run {
     let mut block = [0u8; 64];
@@ -66,7 +54,8 @@ fn takes(r: Run, store: &[u8]) -> Run {
     next.receiver = q;
     let w = got.written;
     if let Written::Wrote(n) = w {
-        handed(block[0], n);
+        io::write_all(1, b" ");
+        showing::bytes(&block, n);
     }
     next
 }
@@ -107,35 +96,15 @@ fn rest(r: Run, store: &[u8]) -> Run {
     q
 }
 
-// The marks of a record, and the lengths that it holds.
-fn places(r: Receiver) {
-    io::write_all(1, b"marks=");
-    let mut i = 0;
-    while i < 32 {
-        let m = r.marks[i];
-        io::print_decimal(1, m as u64);
-        i += 1;
-    }
-    io::write_all(1, b" held:");
-    let mut j = 0;
-    while j < 32 {
-        let h = r.holds[j];
-        number(b" ", h.length as u64);
-        j += 1;
-    }
-    io::write_all(1, b"\n");
-}
-
-// The record at the end.
+// The counts and the records at the end.
 fn shown(r: Run) {
-    let q = r.receiver;
-    number(b"\naccepted=", r.accepted as u64);
-    number(b" refused=", r.refused as u64);
-    number(b" base=", q.base.0);
-    number(b" end=", q.end.0);
-    number(b" due=", q.due.0);
+    showing::number(b"\naccepted=", r.accepted as u64);
+    showing::number(b" refused=", r.refused as u64);
+    io::write_all(1, b"\nreceiver");
+    showing_records::receiver(r.receiver);
+    io::write_all(1, b"\nsender");
+    showing_records::sender(r.sender);
     io::write_all(1, b"\n");
-    places(q);
 }
 
 // One order, from a fresh endpoint.

@@ -91,7 +91,12 @@ fn count(w: Written) -> usize {
     }
 }
 
-// The bytes of a block: its own number, once more for each place.
+// The i-th byte of block b.
+fn byte(b: u32, i: usize) -> u8 {
+    ((b as u64 % 251 + 7 * (i as u64 % 251)) % 251) as u8
+}
+
+// The bytes of a block: its own number in front, and behind it bytes that differ by their place; one more than its number.
 fn fills(out: &mut [u8], k: u32) -> usize {
     let b = block(k);
     let mut i = 0;
@@ -102,7 +107,7 @@ fn fills(out: &mut [u8], k: u32) -> usize {
         if b < i as u32 {
             return i;
         }
-        out[i] = (b % 256) as u8;
+        out[i] = byte(b, i);
         i += 1;
     }
     i

@@ -1,177 +1,122 @@
-// Reads a fixed list of datagrams, on both sides of the boundary of each refusal, and writes one line for each: its name and what
-// reading answers. Datagrams stand as they come: the first byte is the packet's seventh, the eighth is the prefix.
+// Reads the datagrams of a script, on both sides of the boundary of each refusal, and writes one line for each: its name, what reading answers,
+// and every value and place of the packet that is not 0, with the bytes at those places. A line of the script gives a datagram's bytes as they
+// come: the first is the packet's seventh, the eighth is the prefix.
+use wire::Ack;
+use wire::Delay;
 use wire::Packet;
 use wire::Reading;
+use wire::Vector;
 
-// A number behind its name.
-fn field(name: &[u8], n: usize) {
-    io::write_all(1, name);
-    io::print_decimal(1, n as u64);
+// The values of an ACK.
+fn ack(a: Ack) {
+    showing::some(b" ack=", a.number as u64);
+    showing::some(b" acktime=", a.time as u64);
+    showing::some(b" ackgap=", a.gap as u64);
+    showing::some(b" count=", a.count as u64);
+    showing::some(b" scale=", a.scale as u64);
 }
 
-// A 16-bit number behind its name.
-fn word(name: &[u8], n: u16) {
-    io::write_all(1, name);
-    io::print_decimal(1, n as u64);
+// The values of a DelayAckInfo.
+fn delay(y: Delay) {
+    showing::some(b" most=", y.most as u64);
+    showing::some(b" delay=", y.timeout as u64);
 }
 
-// The answer of a refusal.
-fn refused(n: u8) {
-    io::write_all(1, b" answer=");
-    io::print_decimal(1, n as u64);
+// The values of a vector.
+fn vector(x: Vector) {
+    showing::some(b" base=", x.base as u64);
+    showing::some(b" size=", x.size as u64);
+    if x.timed {
+        io::write_all(1, b" timed");
+    }
+    showing::some(b" time=", x.time as u64);
+    showing::some(b" gap=", x.gap as u64);
 }
 
-// An accepted packet.
-fn accepted(p: Packet) {
+// Bytes of a datagram: the place at which they stand, and which they are.
+fn part(word: &[u8], d: &[u8], at: usize, n: usize) {
+    if at == 0 {
+        return;
+    }
+    showing::number(word, at as u64);
+    io::write_all(1, b":");
+    if d.len() < 8 {
+        return;
+    }
+    if d.len() < at {
+        return;
+    }
+    if d.len() - at < n {
+        return;
+    }
+    if wire::LONGEST_DATAGRAM < n {
+        return;
+    }
+    let mut bytes = [0u8; wire::LONGEST_DATAGRAM];
+    wire::reader::copy_part(&mut bytes, 0, d, at, n);
+    showing::bytes(&bytes, n);
+}
+
+// The values of a packet.
+fn values(p: Packet) {
     let v = p.values;
-    io::write_all(1, b" answer=0");
-    word(b" flags=", v.flags);
-    word(b" data=", v.number);
-    word(b" channel=", v.channel);
-    field(b" body=", p.body);
-    field(b" bytes=", p.bytes);
+    showing::number(b" answer=0 flags=", v.flags as u64);
+    showing::some(b" logwindow=", v.logwindow as u64);
+    ack(v.ack);
+    showing::some(b" overhead=", v.overhead as u64);
+    delay(v.delay);
+    showing::some(b" aoa=", v.aoa as u64);
+    showing::some(b" data=", v.number as u64);
+    vector(v.vector);
+    showing::some(b" channel=", v.channel as u64);
 }
 
-// Reads a datagram, and writes its line.
-fn show(name: &[u8], d: &[u8]) {
-    io::write_all(1, name);
+// The bytes of a packet that have a length of their own.
+fn parts(p: Packet, d: &[u8]) {
+    let v = p.values;
+    let a = v.ack;
+    let x = v.vector;
+    part(b" additions=", d, p.additions, a.count as usize);
+    part(b" coded=", d, p.vector, x.size as usize);
+    part(b" block=", d, p.body, p.bytes);
+    showing::some(b" bytes=", p.bytes as u64);
+}
+
+// Reads a datagram, and shows what it says.
+fn show(d: &[u8]) {
     match wire::reader::read(d) {
-        Reading::Refused(n) => refused(n),
+        Reading::Refused(n) => showing::number(b" answer=", n as u64),
         Reading::Dummy => {
             io::write_all(1, b" answer=0 type=8");
         }
-        Reading::Read(p) => accepted(p),
+        Reading::Read(p) => {
+            values(p);
+            parts(p, d);
+        }
     }
     io::write_all(1, b"\n");
 }
 
-// 1: a packet of DATA and zeros, of each length.
-fn lengths() {
-    let mut buffer = [0u8; 1233];
-    buffer[1] = 4;
-    show(b"0 bytes:", &buffer[..0]);
-    show(b"7 bytes:", &buffer[..7]);
-    show(b"8 bytes:", &buffer[..8]);
-    show(b"1232 bytes:", &buffer[..1232]);
-    show(b"1233 bytes:", &buffer);
+// One line of the script.
+fn run(line: &[u8]) {
+    let mut d = [0u8; 1233];
+    let n = script::bytes(line, b"bytes=", &mut d);
+    script::name(line);
+    show(&d[..n]);
 }
 
-// 2: the prefix of a packet of its header alone. Its bit 0 is reserved, bits 1 to 4 are the type.
-fn prefixes() {
-    show(b"type 0:", b"\x00\x00\x50\x00\x00\x00\x00\x40");
-    show(b"reserved:", b"\x00\x00\x50\x00\x00\x00\x00\x41");
-    show(b"type 1:", b"\x00\x00\x50\x00\x00\x00\x00\x42");
-    show(b"type 7:", b"\x00\x00\x50\x00\x00\x00\x00\x4e");
-    show(b"type 8:", b"\x00\x00\x50\x00\x00\x00\x00\x50");
-    show(b"type 8, reserved:", b"\x00\x00\x50\x00\x00\x00\x00\x51");
-    show(b"type 9:", b"\x00\x00\x50\x00\x00\x00\x00\x52");
-    show(b"type 15:", b"\x00\x00\x50\x00\x00\x00\x00\x5e");
-    show(b"type 8, short 1:", b"\x00\x00\x50\x00\x00\x00\x00\x30");
-}
-
-// 3: the header, which only a short length of 1 cuts off; and what short lengths drop from a packet of DATA.
-fn short_lengths() {
-    show(b"short 1:", b"\x00\x00\x00\x00\x00\x00\x00\x20");
-    show(b"short 2:", b"\x00\x00\x00\x00\x00\x00\x00\x40");
-    show(b"short 5, data:", b"\x61\x04\x50\xe8\x03\x07\x00\xa0");
-    show(b"short 6, data:", b"\x61\x04\x50\xe8\x03\x07\x00\xc0");
-    show(b"short 7, data:", b"\x61\x04\x50\xe8\x03\x07\x00\xe0");
-    show(b"short 0, data:", b"\x61\x04\x50\xe8\x03\x07\x00\x00");
-    show(
-        b"short 6, long data:",
-        b"\x61\x04\x50\xe8\x03\x07\x00\xc0\x62\x63",
-    );
-}
-
-// 4 and 5: flags in a packet of its header alone, and the order of 3 (header), 4, 5, 3 (payloads).
-fn flags() {
-    show(b"flag 0x002:", b"\x00\x02\x50\x00\x00\x00\x00\x40");
-    show(b"flag 0x800:", b"\x00\x00\x58\x00\x00\x00\x00\x40");
-    show(b"bit 12:", b"\x00\x00\x10\x00\x00\x00\x00\x40");
-    show(b"ack and vector:", b"\x00\x09\x50\x00\x00\x00\x00\x40");
-    show(b"ack alone:", b"\x00\x01\x50\x00\x00\x00\x00\x40");
-    show(b"vector alone:", b"\x00\x08\x50\x00\x00\x00\x00\x40");
-    show(b"flag 0x002, short 1:", b"\x00\x02\x50\x00\x00\x00\x00\x20");
-    show(
-        b"flag 0x002, ack and vector:",
-        b"\x00\x0b\x50\x00\x00\x00\x00\x40",
-    );
-}
-
-// 3 and 6: payloads that run past the packet's end, that fit, and that leave a byte over.
-fn payloads() {
-    show(b"ack, one short:", b"\x03\x01\x50\x02\x01\x05\x04\x00\x06");
-    show(b"ack, fits:", b"\x03\x01\x50\x02\x01\x05\x04\x00\x06\x00");
-    show(
-        b"ack, one over:",
-        b"\x03\x01\x50\x02\x01\x05\x04\x00\x06\x00\x09",
-    );
-    show(
-        b"ack of one, one short:",
-        b"\x03\x01\x50\x02\x01\x05\x04\x00\x06\x01",
-    );
-    show(
-        b"ack of one, fits:",
-        b"\x03\x01\x50\x02\x01\x05\x04\x00\x06\x01\x09",
-    );
-    show(b"overhead, one short:", b"\x00\x40\x50\x07\x00\x00\x00\x40");
-    show(b"overhead, fits:", b"\x00\x40\x50\x07\x00\x00\x00\x60");
-    show(b"overhead, one over:", b"\x00\x40\x50\x07\x00\x00\x00\x80");
-    show(b"delay, one short:", b"\x00\x00\x51\x07\x02\x01\x00\x80");
-    show(b"delay, fits:", b"\x00\x00\x51\x07\x02\x01\x00\xa0");
-    show(b"delay, one over:", b"\x00\x00\x51\x07\x02\x01\x00\xc0");
-}
-
-// The same of AckOfAcks and of vectors, with and without a time stamp.
-fn more_payloads() {
-    show(b"aoa, one short:", b"\x00\x10\x50\x0a\x00\x00\x00\x60");
-    show(b"aoa, one over:", b"\x00\x10\x50\x0a\x00\x00\x00\xa0");
-    show(b"vector, one short:", b"\x00\x08\x50\xe8\x03\x02\x64\xc0");
-    show(b"vector, fits:", b"\x00\x08\x50\xe8\x03\x01\x64\xc0");
-    show(b"vector, one over:", b"\x00\x08\x50\xe8\x03\x00\x64\xc0");
-    show(
-        b"timed vector, one short:",
-        b"\x22\x08\x50\xe8\x03\x82\x11\x00\x33\x44\x64",
-    );
-    show(
-        b"timed vector, fits:",
-        b"\x22\x08\x50\xe8\x03\x81\x11\x00\x33\x44\x64",
-    );
-    show(
-        b"timed vector, one over:",
-        b"\x22\x08\x50\xe8\x03\x80\x11\x00\x33\x44\x64",
-    );
-    show(
-        b"vector and data, one short:",
-        b"\x01\x0c\x50\xe8\x03\xe9\x03\x00\x64\x07",
-    );
-    show(
-        b"vector and data, fits:",
-        b"\x01\x0c\x50\xe8\x03\xe9\x03\x00\x64\x07\x00",
-    );
-}
-
-// Datagrams of the documents: 01's P1, P2 and listing, and 000's section 4.4.6 as it is printed and with the flags of its payloads.
-fn documents() {
-    show(b"P1:", b"\x73\x30\x35\x56\x78\xa2\x36\x10\xee\x68\xf2");
-    show(b"P2:", b"\x00\x10\x50\x0a\x00\x00\x00\x80");
-    show(b"listing:", b"\x41\x04\x50\xe8\x03\x07\x00\x00\x42");
-    show(
-        b"000, 4.4.6, as printed:",
-        b"\x8d\x18\xc0\x57\x13\x0c\x16\x00\x04\x22\x29\x84\x40\x27\x54\x33\x54\x79\x56\x01\x02\x03\x04\x05\x06\x07\x08\x09\x0a",
-    );
-    show(
-        b"000, 4.4.6, flags 0x055:",
-        b"\x8d\x55\xc0\x57\x13\x0c\x16\x00\x04\x22\x29\x84\x40\x27\x54\x33\x54\x79\x56\x01\x02\x03\x04\x05\x06\x07\x08\x09\x0a",
-    );
+// Every line of the script.
+fn runs(text: &[u8]) {
+    let mut from = 0;
+    while from < text.len() {
+        let end = script::end(text, from);
+        run(&text[from..end]);
+        from = end + 1;
+    }
 }
 
 fn main() {
-    lengths();
-    prefixes();
-    short_lengths();
-    flags();
-    payloads();
-    more_payloads();
-    documents();
+    let mut text = [0u8; 16384];
+    let n = io::read_full(0, &mut text);
+    runs(&text[..n]);
 }

@@ -1,251 +1,140 @@
-// Runs the receiver on both sides of its boundaries, and shows one line for each call: its name, the answer, and base, end and due as the
-// call left them.
-mod calls;
-
+// Runs the receiver by a script, on both sides of its boundaries, and shows one line for each call: its name, the answer, the record as the call
+// left it, and the sum of the store where the call was lent it. The calls are `open`, `record` (a record with these numbers and no mark), `in` (a packet with these values
+// arrives), `take` and `acknowledge`.
 use numbers::ChannelNumber;
 use numbers::DataNumber;
 use receiver::Hold;
 use receiver::Receiver;
 
-// The last data number that fits, and the first that does not.
-fn number_window(r: Receiver, store: &mut [u8]) -> Receiver {
-    let a = calls::plain(b"number base + 32:", r, store, 32, 0, b"ab");
-    calls::plain(b"number base + 31:", a, store, 31, 0, b"ab")
-}
-
-// The last channel number that fits, and the first that does not.
-fn channel_window(r: Receiver, store: &mut [u8]) -> Receiver {
-    let a = calls::plain(b"channel due + 32:", r, store, 0, 32, b"cd");
-    calls::plain(b"channel due + 31:", a, store, 0, 31, b"cd")
-}
-
-// Takes: too little room, enough, and nothing held.
-fn take_due(r: Receiver, store: &[u8]) {
-    let a = calls::takes(b"take, one byte short:", r, store, 1);
-    let b = calls::takes(b"take:", a, store, 2);
-    calls::takes(b"take what is not held:", b, store, 2);
-}
-
-// Windows: the last number and block that fit, and the first that do not.
-fn windows(store: &mut [u8]) {
-    let r = receiver::opened(0, 0);
-    calls::acknowledges(b"acknowledge, nothing yet:", r, 64);
-    let a = number_window(r, store);
-    let b = channel_window(a, store);
-    calls::acknowledges(b"acknowledge a gap:", b, 64);
-    calls::acknowledges(b"acknowledge, one byte short:", b, 7);
-    take_due(b, store);
-}
-
-// An empty block and the longest one.
-fn lengths(r: Receiver, store: &mut [u8]) -> Receiver {
-    let long = [90u8; 1225];
-    let a = calls::plain(b"empty block:", r, store, 65535, 65535, b"");
-    calls::plain(b"block of 1225 bytes:", a, store, 0, 0, &long)
-}
-
-// Two blocks under one data number, and a block that is held already.
-fn repeats(r: Receiver, store: &mut [u8]) -> Receiver {
-    let a = calls::plain(
-        b"the same data number, another block:",
-        r,
-        store,
-        0,
-        1,
-        b"xy",
-    );
-    calls::plain(b"a repeat with other bytes:", a, store, 1, 1, b"zz")
-}
-
-// Takes of the empty block, the longest and the first copy.
-fn take_blocks(r: Receiver, store: &[u8]) -> Receiver {
-    let a = calls::takes(b"take the empty block:", r, store, 0);
-    let b = calls::takes(b"take the longest, one byte short:", a, store, 1224);
-    let c = calls::takes(b"take the longest:", b, store, 1225);
-    calls::takes(b"take the first copy:", c, store, 9)
-}
-
-// Blocks that arrive: empty, the longest, a repeat, two under one data number.
-fn filled(r: Receiver, store: &mut [u8]) -> Receiver {
-    let a = lengths(r, store);
-    repeats(a, store)
-}
-
-// Blocks that arrive, are taken, and arrive once more.
-fn blocks(store: &mut [u8]) {
-    let r = receiver::opened(65535, 65535);
-    let a = filled(r, store);
-    let b = take_blocks(a, store);
-    let c = calls::plain(b"a block below due:", b, store, 2, 65535, b"old");
-    calls::acknowledges(b"acknowledge all:", c, 64);
-}
-
-// An AckOfAcks below base.
-fn waive_below(r: Receiver, store: &mut [u8]) -> Receiver {
-    let a = calls::plain(b"number 0:", r, store, 0, 0, b"a");
-    calls::waiving(b"AckOfAcks below base:", a, store, 0, 2, 1, b"b")
-}
-
-// AckOfAcks past a mark, and at base + 32.
-fn waive_above(r: Receiver, store: &mut [u8]) -> Receiver {
-    let a = calls::waiver(b"AckOfAcks alone, past a mark:", r, store, 2);
-    calls::waiving(b"AckOfAcks at base + 32:", a, store, 35, 66, 2, b"c")
-}
-
-// AckOfAcks below base, past a mark, and at base + 32.
-fn waive_near(r: Receiver, store: &mut [u8]) -> Receiver {
-    let a = waive_below(r, store);
-    waive_above(a, store)
-}
-
-// A late first copy, and an AckOfAcks far above.
-fn waive_late(r: Receiver, store: &mut [u8]) -> Receiver {
-    let a = calls::plain(
-        b"a late first copy whose number was waived:",
-        r,
-        store,
-        10,
-        3,
-        b"d",
-    );
-    calls::waiver(b"AckOfAcks far above:", a, store, 32802)
-}
-
-// The window counted from the packet's own AckOfAcks.
-fn waive_window(r: Receiver, store: &mut [u8]) -> Receiver {
-    let a = calls::waiving(b"one past B + 31:", r, store, 33000, 33032, 4, b"e");
-    calls::waiving(b"B + 31:", a, store, 33000, 33031, 4, b"f")
-}
-
-// A late first copy, and AckOfAcks far above: the window is then counted from them.
-fn waive_far(r: Receiver, store: &mut [u8]) -> Receiver {
-    let a = waive_late(r, store);
-    waive_window(a, store)
-}
-
-// Takes of what the AckOfAcks waived nothing of.
-fn take_waived(r: Receiver, store: &[u8]) -> Receiver {
-    let a = calls::takes(b"take 0:", r, store, 9);
-    let b = calls::takes(b"take 1:", a, store, 9);
-    let c = calls::takes(b"take 2:", b, store, 9);
-    calls::takes(b"take the late one:", c, store, 9)
-}
-
-// AckOfAcks: below base, at base + 32, far above, alone, and a late first copy.
-fn waivers(store: &mut [u8]) {
-    let r = receiver::opened(0, 0);
-    let a = waive_near(r, store);
-    let b = waive_far(a, store);
-    let c = take_waived(b, store);
-    calls::acknowledges(b"acknowledge after AckOfAcks:", c, 64);
-}
-
-// A record near the end of the full range.
-fn last(base: u64, end: u64, due: u64) -> Receiver {
+// A record with these numbers, and nothing received.
+fn stands(line: &[u8]) -> Receiver {
+    let base = DataNumber(script::number(line, b"base="));
+    let end = DataNumber(script::number(line, b"end="));
+    let due = ChannelNumber(script::number(line, b"due="));
     Receiver {
         firstdata: DataNumber(0),
         firstchannel: ChannelNumber(0),
-        base: DataNumber(base),
-        end: DataNumber(end),
-        due: ChannelNumber(due),
+        base,
+        end,
+        due,
         marks: [0u8; 32],
         holds: [Hold { held: 0, length: 0 }; 32],
     }
 }
 
-// The highest number, and one past it.
-fn highest_number(r: Receiver, store: &mut [u8]) -> Receiver {
-    let a = calls::plain(
-        b"the highest number and block:",
-        r,
-        store,
-        65535,
-        65535,
-        b"z",
-    );
-    calls::plain(b"past the highest number:", a, store, 0, 65535, b"z")
+// The end of a line: the record and the store.
+fn left(r: Receiver, store: &[u8]) {
+    showing_records::receiver(r);
+    showing::sum(b" store=", store, store.len());
+    io::write_all(1, b"\n");
 }
 
-// The highest number and block, and one past each.
-fn highest(r: Receiver, store: &mut [u8]) -> Receiver {
-    let a = highest_number(r, store);
-    let b = calls::takes(b"take the highest block:", a, store, 9);
-    calls::plain(b"past the highest block:", b, store, 65535, 0, b"z")
+// A datagram arrives.
+fn receives(r: Receiver, store: &mut [u8], d: &[u8]) -> Receiver {
+    let got = arriving::receive(r, store, d);
+    let q = got.receiver;
+    showing::number(b" answer=", got.answer as u64);
+    left(q, store);
+    q
 }
 
-// Data numbers that are inconsistent by one.
-fn past_numbers(store: &mut [u8]) {
-    calls::plain(
-        b"base above 4294967296:",
-        last(4294967297, 4294967296, 0),
-        store,
-        0,
-        0,
-        b"z",
-    );
-    calls::plain(
-        b"end above 4294967296:",
-        last(4294967296, 4294967297, 0),
-        store,
-        0,
-        0,
-        b"z",
-    );
+// A packet arrives, with the store or with a part of it.
+fn arrives(r: Receiver, store: &mut [u8], line: &[u8]) -> Receiver {
+    let mut d = [0u8; 1232];
+    let n = script_packets::make(line, &mut d);
+    let size = script::lent(line, b"store=", window::STORE, 39201);
+    if store.len() < size {
+        return r;
+    }
+    receives(r, &mut store[..size], &d[..n])
 }
 
-// Records that are inconsistent by one.
-fn past_the_end(store: &mut [u8]) {
-    past_numbers(store);
-    calls::plain(
-        b"due above 4294967296:",
-        last(0, 0, 4294967297),
-        store,
-        0,
-        0,
-        b"z",
-    );
+// A take into this buffer.
+fn taken(r: Receiver, store: &[u8], out: &mut [u8]) -> Receiver {
+    showing::fill(out);
+    let got = taking::take(r, store, out);
+    let q = got.receiver;
+    let w = got.written;
+    showing::answered(w, out);
+    left(q, store);
+    q
 }
 
-// The end of the full range.
-fn ends(store: &mut [u8]) {
-    let r = last(4294967295, 4294967295, 4294967295);
-    let a = highest(r, store);
-    calls::acknowledges(b"acknowledge at 4294967296:", a, 64);
-    past_the_end(store);
+// A take into room for so many bytes, from the store or from a part of it.
+fn takes(r: Receiver, store: &[u8], line: &[u8]) -> Receiver {
+    let mut out = [0u8; 1225];
+    let room = script::lent(line, b"room=", 0, 1225);
+    let size = script::lent(line, b"store=", window::STORE, 39201);
+    if store.len() < size {
+        return r;
+    }
+    taken(r, &store[..size], &mut out[..room])
 }
 
-// A store of one byte too many.
-fn long_store() {
-    let mut store = [0u8; 39201];
-    calls::plain(
-        b"store of 39201 bytes:",
-        receiver::opened(0, 0),
-        &mut store,
-        0,
-        0,
-        b"z",
-    );
+// An acknowledgement into this buffer.
+fn acknowledged(r: Receiver, out: &mut [u8]) {
+    showing::fill(out);
+    let w = reporting::acknowledge(r, 0x1234567, 7, out);
+    showing::answered(w, out);
+    io::write_all(1, b"\n");
 }
 
-// A store of one byte too few.
-fn short_store() {
-    let mut store = [0u8; 39199];
-    calls::plain(
-        b"store of 39199 bytes:",
-        receiver::opened(0, 0),
-        &mut store,
-        0,
-        0,
-        b"z",
-    );
+// An acknowledgement into room for so many bytes.
+fn acknowledges(r: Receiver, line: &[u8]) {
+    let mut out = [0u8; 64];
+    let room = script::lent(line, b"room=", 0, 64);
+    acknowledged(r, &mut out[..room]);
+}
+
+// A fresh record.
+fn opened(line: &[u8]) -> Receiver {
+    receiver::opened(
+        script_packets::word(line, b"firstdata="),
+        script_packets::word(line, b"firstchannel="),
+    )
+}
+
+// Shows a record.
+fn shown(r: Receiver) -> Receiver {
+    showing_records::receiver(r);
+    io::write_all(1, b"\n");
+    r
+}
+
+// One line of the script.
+fn run(r: Receiver, store: &mut [u8], line: &[u8]) -> Receiver {
+    script::name(line);
+    let call = script::call(line);
+    if call == b'o' {
+        return shown(opened(line));
+    }
+    if call == b'r' {
+        return shown(stands(line));
+    }
+    if call == b'i' {
+        return arrives(r, store, line);
+    }
+    if call == b't' {
+        return takes(r, store, line);
+    }
+    acknowledges(r, line);
+    r
+}
+
+// Every line of the script.
+fn runs(text: &[u8], store: &mut [u8]) {
+    let mut r = receiver::opened(0, 0);
+    let mut from = 0;
+    while from < text.len() {
+        let end = script::end(text, from);
+        r = run(r, store, &text[from..end]);
+        from = end + 1;
+    }
 }
 
 fn main() {
-    let mut store = [0u8; 39200];
-    windows(&mut store);
-    blocks(&mut store);
-    waivers(&mut store);
-    ends(&mut store);
-    short_store();
-    long_store();
+    let mut store = [0x55u8; 39201];
+    let mut text = [0u8; 16384];
+    let n = io::read_full(0, &mut text);
+    runs(&text[..n], &mut store);
 }

@@ -1,7 +1,7 @@
-// A morning that is recorded, event by event, and then replayed.
+// Heads and events that are recorded, and a morning of them that is then replayed.
 ghost use Prim.Native.Nat.{_≤_};
 ghost use lib.ListN.{length};
-use crate::showing;
+use crate::replaying;
 use common::Written;
 
 // Records the head; the result is the next free place.
@@ -26,7 +26,7 @@ fn event(out: &mut [u8], at: usize, tick: u32, kind: u8, bytes: &[u8]) -> usize
 }
 
 // Records an event of every kind.
-fn events(out: &mut [u8], at: usize) -> usize
+fn every(out: &mut [u8], at: usize) -> usize
     requires { ⌜ at ≤ length (now out) ⌝ }
     ensures { λ r. ⌜ r ≤ length (now (out .entry)) ⌝ }
 {
@@ -43,14 +43,16 @@ fn morning(out: &mut [u8]) -> usize
     ensures { λ r. ⌜ r ≤ length (now (out .entry)) ⌝ }
 {
     let at = head(out);
-    events(out, at)
+    every(out, at)
 }
 
 // Shows a trace as it is, and then its replay.
 fn shown(trace: &[u8]) {
     io::write_all(1, b"a recorded morning:\n");
     io::write_all(1, trace);
-    showing::replays(b"its replay:", trace);
+    io::write_all(1, b"its replay:");
+    replaying::replays(trace);
+    io::write_all(1, b"\n");
 }
 
 // Records a morning, and shows it.
@@ -58,4 +60,44 @@ pub(crate) fn recorded() {
     let mut out = [0u8; 512];
     let n = morning(&mut out);
     shown(&out[..n]);
+}
+
+// An event into this buffer.
+fn tells(line: &[u8], bytes: &[u8], out: &mut [u8]) {
+    showing::fill(out);
+    let w = trace_writing::event(
+        (script::number(line, b"tick=") % 4294967296) as u32,
+        (script::number(line, b"kind=") % 256) as u8,
+        bytes,
+        out,
+    );
+    showing::answered(w, out);
+}
+
+// An event of a line of the script, into room for so many bytes.
+pub(crate) fn events(line: &[u8]) {
+    let mut bytes = [0u8; 64];
+    let mut out = [0u8; 256];
+    let n = script::bytes(line, b"bytes=", &mut bytes);
+    let room = script::lent(line, b"room=", 0, 256);
+    tells(line, &bytes[..n], &mut out[..room]);
+}
+
+// A head into this buffer.
+fn begins(line: &[u8], out: &mut [u8]) {
+    showing::fill(out);
+    let w = trace_writing::head(
+        (script::number(line, b"firstdata=") % 4294967296) as u32,
+        (script::number(line, b"firstchannel=") % 4294967296) as u32,
+        (script::number(line, b"timeout=") % 4294967296) as u32,
+        out,
+    );
+    showing::answered(w, out);
+}
+
+// A head of a line of the script, into room for so many bytes.
+pub(crate) fn heads(line: &[u8]) {
+    let mut out = [0u8; 256];
+    let room = script::lent(line, b"room=", 0, 256);
+    begins(line, &mut out[..room]);
 }

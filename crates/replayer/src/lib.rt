@@ -215,8 +215,8 @@ fn fresh_run(trace: &[u8], out: &mut [u8]) -> usize
     requires { ⌜ (length (now trace) ≤ 65536) × (131072 ≤ length (now out)) ⌝ }
     ensures { λ r. ⌜ LaidWithin 131072 (runOf (begun blankStore blankStore) (linesOf (now (trace .entry)))) (now (out .entry)) 0 (now (out .exit)) r ⌝ }
 {
-    let mut store = [0u8; receiver::STORE];
-    let mut sent = [0u8; sender::STORE];
+    let mut store = [0u8; window::STORE];
+    let mut sent = [0u8; window::STORE];
     run(trace, &mut store, &mut sent, out)
 }
 

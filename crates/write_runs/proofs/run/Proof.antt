@@ -1,21 +1,45 @@
--- `run` is safe: the part of the buffer that it lends has as many bytes as it says.
-use borrow.Author.Needs.{needs}
+-- `run` is safe and ends.
 use mathlib.Core.Path.{sym}
 use lib.Seq.{length-take-le}
+use borrow.Author.Needs.{needs}
 use Rattle.write_runs.proofs.run.Statement.{statement}
 use Rattle.write_runs.proofs.run.Tie as tie
-
-array-borrow-prefix-out : tie.Need-array-borrow-prefix-out
-array-borrow-prefix-out c = search needs
 
 slice-aggregate-show : tie.Need-slice-aggregate-show
 slice-aggregate-show c = sym (length-take-le _ _ (search needs))
 
-show-requires : tie.Need-show-requires
-show-requires c κs = search needs
+slice-aggregate-show-2 : tie.Need-slice-aggregate-show-2
+slice-aggregate-show-2 c = sym (length-take-le _ _ (search needs))
 
-returns : tie.Need-returns
-returns c = search needs
+slice-aggregate-show-3 : tie.Need-slice-aggregate-show-3
+slice-aggregate-show-3 c = sym (length-take-le _ _ (search needs))
+
+slice-aggregate-show-4 : tie.Need-slice-aggregate-show-4
+slice-aggregate-show-4 c = sym (length-take-le _ _ (search needs))
 
 pub run-spec : {M : Type 1} → statement M
-run-spec = tie.close (tie.spec array-borrow-prefix-out slice-aggregate-show show-requires returns)
+run-spec =
+    tie.close
+    (tie.spec
+    (λ c. search needs)
+    (λ c. search needs)
+    (λ c κs. search needs)
+    (λ c. search needs)
+    (λ c. search needs)
+    (λ c κs. search needs)
+    (λ c. search needs)
+    (λ c. search needs)
+    (λ c κs. search needs)
+    (λ c. search needs)
+    (λ c κs. search needs)
+    (λ c κs. search needs)
+    (λ c. search needs)
+    slice-aggregate-show
+    (λ c. search needs)
+    slice-aggregate-show-2
+    (λ c. search needs)
+    slice-aggregate-show-3
+    (λ c. search needs)
+    slice-aggregate-show-4
+    (λ c κs. search needs)
+    (λ c. search needs))

@@ -33,8 +33,8 @@ same-length-2 c = search needs
 returns-2 : tie.Need-returns-2 Inv-loop μ-loop
 returns-2 c = search needs
 
-cast-out : tie.Need-cast-out Inv-loop μ-loop
-cast-out c = search needs
+byte-requires : tie.Need-byte-requires Inv-loop μ-loop
+byte-requires c κs = search needs
 
 slice-write-out : tie.Need-slice-write-out Inv-loop μ-loop
 slice-write-out c = search needs
@@ -67,7 +67,7 @@ fills-spec =
     cast-if2
     same-length-2
     returns-2
-    cast-out
+    byte-requires
     slice-write-out
     add-i
     loop-less

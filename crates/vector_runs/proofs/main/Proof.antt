@@ -1,0 +1,16 @@
+-- `main` is safe and ends.
+use borrow.Author.Needs.{needs}
+use Rattle.vector_runs.proofs.main.Statement.{statement}
+use Rattle.vector_runs.proofs.main.Tie as tie
+
+pub main-spec : {M : Type 1} → statement M
+main-spec =
+    tie.close
+    (tie.spec
+    (λ c κs. search needs)
+    (λ c. search needs)
+    (λ c κs. search needs)
+    (λ c. search needs)
+    (λ c. search needs)
+    (λ c κs. search needs)
+    (λ c. search needs))
