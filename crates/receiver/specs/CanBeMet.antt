@@ -10,6 +10,7 @@ use lib.ListN.{replicate, length-replicate}
 use Rattle.common.specs.Every.{every}
 use Rattle.common.specs.Facts.{clash}
 use Rattle.common.specs.Order.{first}
+use Rattle.numbers.specs.Full.{highestFirst}
 use Rattle.numbers.specs.Widen.{widenOf}
 use Rattle.window.specs.Store.{storeSize}
 use Rattle.window.specs.Members.{In}
@@ -27,7 +28,7 @@ use Rattle.receiver.specs.Facts.{Facts, facts-sound}
 use Rattle.receiver.specs.Set.{Set}
 use Rattle.receiver.specs.Shown.{Brings, Shown, shown-set}
 
-pub fresh-facts : (w cap n c : ℕ) → n ≤ 65535 → c ≤ 65535 → Facts w cap (freshOf cap n c)
+pub fresh-facts : (w cap n c : ℕ) → n ≤ highestFirst → c ≤ highestFirst → Facts w cap (freshOf cap n c)
 fresh-facts w cap n c ln lc =
     record {
       marksSize = length-replicate cap 0;

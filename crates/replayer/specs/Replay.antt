@@ -7,6 +7,7 @@ use mathlib.Core.List.{List, [], _∷_}
 use lib.ListN.{length, replicate}
 use lib.Dec.{eqb, ltb}
 use Rattle.common.specs.Put.{joined}
+use Rattle.window.specs.Store.{storeSize}
 use Rattle.text.specs.Decimal.{decimalOf}
 use Rattle.text.specs.Lines.{line}
 use Rattle.trace.specs.Lines.{linesOf}
@@ -28,7 +29,7 @@ recordOf e = recordText (e .halves .sender) (e .halves .receiver)
 
 -- the stores before the first event
 abbrev pub blankStore : List ℕ
-blankStore = replicate 39200 0
+blankStore = replicate (storeSize 32) 0
 
 -- the events' answers, 16 where a line ends them, and the record that the calls leave
 unfoldable pub eventsReplayed : Endpoint → Events → List ℕ

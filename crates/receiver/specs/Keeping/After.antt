@@ -8,7 +8,7 @@ use native.Mathlib.Omega.{arith}
 use lib.ListN.{length}
 use Rattle.common.specs.Facts.{lt-or-ge, bool}
 use Rattle.common.specs.Put.{putOf, put-length}
-use Rattle.numbers.specs.Full.{highest}
+use Rattle.numbers.specs.Full.{highest, highestFirst}
 use Rattle.window.specs.Store.{placeSize, storeSize, storePlace}
 use Rattle.window.specs.Sliding.{updated}
 use Rattle.receiver.specs.declared.Hold.{Hold}
@@ -23,8 +23,8 @@ use Rattle.receiver.specs.Keeping.Accepted.{Accepted, dueHeld}
 
 -- the first numbers n and c in their range, and not above base, end and due
 pub record Firsts (n c b e d : ℕ) : Type 0 where
-  pub firstData : n ≤ 65535
-  pub firstChannel : c ≤ 65535
+  pub firstData : n ≤ highestFirst
+  pub firstChannel : c ≤ highestFirst
   pub baseFrom : n ≤ b
   pub endFrom : n ≤ e
   pub dueFrom : c ≤ d
