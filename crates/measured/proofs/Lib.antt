@@ -1,3 +1,0 @@
--- What the loops' proofs share.
-mod Going
-mod Stepped

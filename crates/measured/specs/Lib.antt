@@ -1,4 +1,0 @@
--- What the measured calls give: the calls' own definitions, one call after another.
-pub mod Calls
-pub mod Steps
-pub mod Told

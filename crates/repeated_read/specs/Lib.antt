@@ -1,0 +1,2 @@
+-- What is told of a datagram that was read.
+pub mod Told

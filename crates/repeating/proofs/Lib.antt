@@ -1,0 +1,3 @@
+-- What the loops' proofs share.
+pub mod Going
+pub mod Stepped
