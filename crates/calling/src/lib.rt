@@ -66,7 +66,7 @@ pub fn call(
         };
     }
     if kind == trace::RESEND {
-        let x = sending::resend(s, sent, tick, &mut out);
+        let x = resending::resend(s, sent, tick, &mut out);
         let sender = x.sender;
         let written = x.written;
         return Called {

@@ -109,7 +109,7 @@ fn puts(e: End, channel: &mut [u8], at: usize, datagram: &[u8], n: usize) -> End
 // Sends a waiting block again, or else the next one, up to so many.
 fn sends(e: End, sent: &mut [u8], channel: &mut [u8], at: usize, tick: u32, upto: u32) -> End {
     let mut datagram = [0u8; 64];
-    let again = sending::resend(e.sender, sent, tick, &mut datagram);
+    let again = resending::resend(e.sender, sent, tick, &mut datagram);
     let w = again.written;
     if let Written::Wrote(n) = w {
         let mut q = e;

@@ -8,7 +8,7 @@ use common::Written;
 fn head(out: &mut [u8]) -> usize
     ensures { λ r. ⌜ r ≤ length (now (out .entry)) ⌝ }
 {
-    match trace_writing::head(0, 0, 1000, out) {
+    match trace_head::head(0, 0, 1000, out) {
         Written::Refused(_) => 0,
         Written::Wrote(k) => k,
     }
@@ -86,7 +86,7 @@ pub(crate) fn events(line: &[u8]) {
 // A head into this buffer.
 fn begins(line: &[u8], out: &mut [u8]) {
     showing::fill(out);
-    let w = trace_writing::head(
+    let w = trace_head::head(
         (script::number(line, b"firstdata=") % 4294967296) as u32,
         (script::number(line, b"firstchannel=") % 4294967296) as u32,
         (script::number(line, b"timeout=") % 4294967296) as u32,

@@ -116,7 +116,7 @@ fn many(s: Sender, store: &mut [u8], line: &[u8]) -> Sender {
 // A resend into this buffer.
 fn resent(s: Sender, store: &[u8], tick: u32, out: &mut [u8]) -> Sender {
     showing::fill(out);
-    let got = sending::resend(s, store, tick, out);
+    let got = resending::resend(s, store, tick, out);
     let q = got.sender;
     let w = got.written;
     showing::answered(w, out);

@@ -1,4 +1,4 @@
-// New block and resend: judged first, then written, and only then the record and the store change.
+// A new block: judged first, then written, and only then the record and the store change. `resending` sends one again.
 ghost use mathlib.Core.Path.{_≡_};
 ghost use mathlib.Core.Bool.{true, cond};
 ghost use Prim.Native.Nat.{_+_, _≤_};
@@ -6,8 +6,7 @@ ghost use lib.ListN.{length};
 ghost use lib.Dec.{leb, ltb};
 ghost use Rattle.common.specs.Answer.{roomAnswer, writtenOf, leftOf};
 ghost use Rattle.numbers.specs.Full.{highest, pastHighest};
-ghost use Rattle.sender.specs.Send.{dataBytes, sentOf, newAnswer, newDatagram, newOf, lowestWaiting, resendAnswer, resendDatagram, resendOf};
-ghost use Rattle.sending.specs.Lowest.{lowestOf};
+ghost use Rattle.sender.specs.Send.{dataBytes, sentOf, newAnswer, newDatagram, newOf};
 ghost use Rattle.sender.specs.Record.{longestSent, state};
 use common::Written;
 use numbers::ChannelNumber;
@@ -32,14 +31,8 @@ pub struct Outcome {
     pub sender: Sender,
 }
 
-// The waiting block of lowest channel number, if any waits.
-pub enum Lowest {
-    Nothing,
-    Block(ChannelNumber),
-}
-
 // Writes the datagram that carries a block. Refused with 14 alone.
-fn put_data(
+pub fn put_data(
     low: DataNumber,
     next: DataNumber,
     channel: ChannelNumber,
@@ -106,7 +99,13 @@ fn full(
 }
 
 // The record after the next data number went out with block c, of so many bytes, at this tick.
-fn sent(s: Sender, tick: u32, c: ChannelNumber, length: u16, channelnext: ChannelNumber) -> Sender
+pub fn sent(
+    s: Sender,
+    tick: u32,
+    c: ChannelNumber,
+    length: u16,
+    channelnext: ChannelNumber,
+) -> Sender
     requires { ⌜ s .next .0 ≤ pastHighest ⌝ }
     ensures { λ r. ⌜ r ≡ sentOf 32 s tick (c .0) length (channelnext .0) ⌝ }
 {
@@ -185,83 +184,6 @@ pub fn send(s: Sender, store: &mut [u8], tick: u32, block: &[u8], out: &mut [u8]
                 block.len() as u16,
                 ChannelNumber(channel.0 + 1),
             );
-            Outcome {
-                written: Written::Wrote(k),
-                sender: q,
-            }
-        }
-    }
-}
-
-// Finds the waiting block of lowest channel number.
-fn lowest_waiting(s: Sender) -> Lowest
-    ensures { λ r. ⌜ r ≡ lowestOf (lowestWaiting 32 s) ⌝ }
-{
-    let next = s.channelnext.0;
-    let mut c = s.channellow.0;
-    while c < next {
-        let at = window::channel_place(ChannelNumber(c));
-        let b = s.blocks[at];
-        if b.state == sender::WAITING {
-            return Lowest::Block(ChannelNumber(c));
-        }
-        c += 1;
-    }
-    Lowest::Nothing
-}
-
-// Sends the waiting block of lowest channel number again, from the sender's own store: writes its datagram, under a new data number, into out.
-// Refused with 13, 11, 12, 9, 14, in this order.
-pub fn resend(s: Sender, store: &[u8], tick: u32, out: &mut [u8]) -> Outcome
-    ensures answer { λ r. ⌜ r .written ≡ writtenOf (resendAnswer 32 32 (state s (now (store .entry))) (length (now (out .entry)))) (resendDatagram 32 (state s (now (store .entry)))) ⌝ }
-    ensures record { λ r. ⌜ r .sender ≡ resendOf 32 32 (state s (now (store .entry))) tick (length (now (out .entry))) ⌝ }
-    ensures bytes { λ r. ⌜ now (out .exit) ≡ leftOf (resendAnswer 32 32 (state s (now (store .entry))) (length (now (out .entry)))) (resendDatagram 32 (state s (now (store .entry)))) (now (out .entry)) ⌝ }
-{
-    if store.len() != window::STORE {
-        return Outcome {
-            written: Written::Refused(13),
-            sender: s,
-        };
-    }
-    if !checking::consistent(s) {
-        return Outcome {
-            written: Written::Refused(13),
-            sender: s,
-        };
-    }
-    let Lowest::Block(c) = lowest_waiting(s) else {
-        return Outcome {
-            written: Written::Refused(11),
-            sender: s,
-        };
-    };
-    let low = s.low;
-    let next = s.next;
-    if numbers::HIGHEST < next.0 {
-        return Outcome {
-            written: Written::Refused(12),
-            sender: s,
-        };
-    }
-    if low.0 + DataNumber::WINDOW <= next.0 {
-        return Outcome {
-            written: Written::Refused(9),
-            sender: s,
-        };
-    }
-    // The block's place is read from a copy of the places, so that the record is not copied.
-    let at = window::channel_place(c);
-    let places = s.blocks;
-    let b = places[at];
-    let length = b.length;
-    let start = at * window::PLACE;
-    match put_data(low, next, c, &store[start..start + length as usize], out) {
-        Written::Refused(n) => Outcome {
-            written: Written::Refused(n),
-            sender: s,
-        },
-        Written::Wrote(k) => {
-            let q = sent(s, tick, c, length, s.channelnext);
             Outcome {
                 written: Written::Wrote(k),
                 sender: q,

@@ -1,6 +1,6 @@
 // A counter's morning as text (document 02, W1): four head lines, then three lines for each event. Here stand the numbers of it, what a reader keeps
 // between two lines, and in specs/ what a trace reads as and is written as. `trace_reading` and `trace_data` read one, line by line, and
-// `trace_writing` writes one into lent buffers. Nothing here knows an endpoint.
+// `trace_head` and `trace_writing` write one into lent buffers. Nothing here knows an endpoint.
 ghost use mathlib.Core.Path.{_≡_};
 ghost use Rattle.trace.specs.Kinds.{carries};
 

@@ -2,8 +2,8 @@
 use native.Mathlib.Omega.{arith}
 use borrow.Author.Needs.{needs}
 use Rattle.text.specs.Within.{within, within-four}
-use Rattle.trace_writing.proofs.fixed_lines.Statement.{statement}
-use Rattle.trace_writing.proofs.fixed_lines.Tie as tie
+use Rattle.trace_head.proofs.fixed_lines.Statement.{statement}
+use Rattle.trace_head.proofs.fixed_lines.Tie as tie
 
 slice-aggregate-lay : tie.Need-slice-aggregate-lay
 slice-aggregate-lay c = search needs

@@ -2,8 +2,8 @@
 use borrow.Author.Needs.{needs}
 use Rattle.text.specs.Within.{within-as, within-four}
 use Rattle.trace.proofs.Texts.{head-parts}
-use Rattle.trace_writing.proofs.head_lines.Statement.{statement}
-use Rattle.trace_writing.proofs.head_lines.Tie as tie
+use Rattle.trace_head.proofs.head_lines.Statement.{statement}
+use Rattle.trace_head.proofs.head_lines.Tie as tie
 
 fixed-lines-requires : tie.Need-fixed-lines-requires
 fixed-lines-requires c κs = search needs

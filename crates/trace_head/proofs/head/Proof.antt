@@ -2,8 +2,8 @@
 use native.Mathlib.Omega.{arith}
 use borrow.Author.Needs.{needs}
 use Rattle.text.specs.Within.{text-taken, text-within, text-short, text-fits}
-use Rattle.trace_writing.proofs.head.Statement.{statement}
-use Rattle.trace_writing.proofs.head.Tie as tie
+use Rattle.trace_head.proofs.head.Statement.{statement}
+use Rattle.trace_head.proofs.head.Tie as tie
 
 slice-aggregate-head-lines : tie.Need-slice-aggregate-head-lines
 slice-aggregate-head-lines c = search needs

@@ -15,15 +15,15 @@ use Rattle.common.specs.Order.{first-here, first-skip}
 use Rattle.numbers.specs.Full.{highest}
 use Rattle.window.specs.Store.{placeSize, storeSize, size-wrong, size-right}
 use Rattle.sender.specs.declared.Sender.{Sender}
-use Rattle.sending.specs.declared.Lowest.{Lowest}
-use Rattle.sending.specs.declared.Lowest.the-variants.{Nothing, Block}
+use Rattle.resending.specs.declared.Lowest.{Lowest}
+use Rattle.resending.specs.declared.Lowest.the-variants.{Nothing, Block}
 use Rattle.sender.specs.Record.{longestSent, State, isWaiting, noBlock, blockAt, contents}
 use Rattle.sender.specs.Consistent.{consistentOf, soundOf}
 use Rattle.sender.specs.Send.{dataBytes, sentOf, waitingFrom, lowestWaiting, isNone, resendDatagram, resendAnswer, resendOf}
-use Rattle.sending.specs.Lowest.{lowestOf}
+use Rattle.resending.specs.Lowest.{lowestOf}
 use Rattle.sender.specs.Facts.{consistent-facts}
 use Rattle.sender.specs.SendReady.{sound-facts, waiting-found}
 use Rattle.sending.proofs.NewBlock.{refused-is, wrote-is}
 
 -- the search, block by block: k blocks are left from c on
 pub waiting-start : (s : Sender) → waitingFrom 32 s (s .channellow .0) (s .channelnext .0 - s .channellow .0) ≡ lowestWaiting 32 s

@@ -1,13 +1,13 @@
--- `sending::lowest_waiting` meets its contract: each way out is an instance of a law.
+-- `resending::lowest_waiting` meets its contract: each way out is an instance of a law.
 use Prim.Native.Nat.{_-_}
 use mathlib.Core.Path.{_≡_}
 use native.Mathlib.Omega.{arith}
 use borrow.Author.Needs.{needs}
 use borrow.Author.Tests.{eq-eqb, ne-eqb}
 use Rattle.sender.specs.Send.{waitingFrom, lowestWaiting}
-use Rattle.sending.proofs.OldBlock.{waiting-start, waiting-here, waiting-next, waiting-none}
-use Rattle.sending.proofs.lowest_waiting.Statement.{statement}
-use Rattle.sending.proofs.lowest_waiting.Tie as tie
+use Rattle.resending.proofs.OldBlock.{waiting-start, waiting-here, waiting-next, waiting-none}
+use Rattle.resending.proofs.lowest_waiting.Statement.{statement}
+use Rattle.resending.proofs.lowest_waiting.Tie as tie
 
 abbrev Inv-loop : tie.InvT-loop
 Inv-loop s next c₀ c = waitingFrom 32 s c (next - c) ≡ lowestWaiting 32 s

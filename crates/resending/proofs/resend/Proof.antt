@@ -10,12 +10,12 @@ use Rattle.window.specs.Store.{size-right}
 use Rattle.sender.specs.Record.{longestSent, State, state, noBlock, blockAt}
 use Rattle.sender.specs.Consistent.{soundOf}
 use Rattle.sender.specs.Send.{lowestWaiting}
 use Rattle.sending.proofs.NewBlock.{sound-bounds}
-use Rattle.sending.proofs.OldBlock.{lowest-some, block-short, part-short, datagram-is, Ready}
-use Rattle.sending.proofs.OldBlock.{resend-unsized, resend-unfit, resend-none, resend-used, resend-full, resend-roomless, resend-sent}
+use Rattle.resending.proofs.OldBlock.{lowest-some, block-short, part-short, datagram-is, Ready}
+use Rattle.resending.proofs.OldBlock.{resend-unsized, resend-unfit, resend-none, resend-used, resend-full, resend-roomless, resend-sent}
 use borrow.Author.Needs.{needs}
-use Rattle.sending.proofs.resend.Statement.{statement}
-use Rattle.sending.proofs.resend.Tie as tie
+use Rattle.resending.proofs.resend.Statement.{statement}
+use Rattle.resending.proofs.resend.Tie as tie
 
 -- the record and the store at the call
 abbrev entry : tie.Start → State
