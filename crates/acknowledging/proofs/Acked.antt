@@ -1,4 +1,4 @@
--- Judging and the whole call: a law for each way out.
+-- Judging and the whole call: a law for each way out, over any window w.
 use Prim.Native.Nat.{ℕ, _+_, _-_, _≤_, _<_}
 use mathlib.Core.Bool.{Bool, true, false, cond}
 use mathlib.Core.List.{List}
@@ -24,7 +24,7 @@ use Rattle.sender.specs.Consistent.{consistentOf}
 use Rattle.sender.specs.Turn.{turnedOf}
 use Rattle.turning.specs.Chosen.{chosenBy}
 use Rattle.sender.specs.Acknowledge.{acknowledging, toldBy, toldAnswer, toldOf, readAnswer, readInto, acknowledgeAnswer, acknowledgeOf}
-use Rattle.acknowledging.specs.Walk.{walkOf, nothing, judgeUpTo, fromWalk, judgeListed, appliedOf}
+use Rattle.acknowledging.specs.Walk.{walkOf, nothing, judgeUpTo, fromWalk, judgeListed, appliedOf, applied-so}
 
 data-at : (a : Widened) (n : DataNumber) → DataAt n ≡ dataOf a → a ≡ At (n .0)
 data-at a n h = sym (ap fromData h ∙ from-data a)
@@ -47,81 +47,78 @@ widened-least r f n h =
     let e : numberIn (widenOf r f) ≡ n .0 = ap numberIn (data-at (widenOf r f) n h) in
     omega (arith, widened-high r f (leb (backOf r f) (r + 32767)))
 
--- an ACK
-pub up-to-early : (firstdata next : ℕ) (a : Widened) (n : DataNumber) → DataAt n ≡ dataOf a → n .0 < firstdata → nothing 32 8 ≡ judgeUpTo 32 firstdata next a
-unfolding judgeUpTo
-up-to-early firstdata next a n h l = rw (data-at a n h, lt-ltb (n .0) firstdata l) refl
+module _ (w : ℕ) where
+  -- an ACK
+  pub up-to-early : (firstdata next : ℕ) (a : Widened) (n : DataNumber) → DataAt n ≡ dataOf a → n .0 < firstdata → nothing w 8 ≡ judgeUpTo w firstdata next a
+  unfolding judgeUpTo
+  up-to-early firstdata next a n h l = rw (data-at a n h, lt-ltb (n .0) firstdata l) refl
 
-pub up-to-late : (firstdata next : ℕ) (a : Widened) (n : DataNumber) → DataAt n ≡ dataOf a → firstdata ≤ n .0 → next ≤ n .0 → nothing 32 8 ≡ judgeUpTo 32 firstdata next a
-unfolding judgeUpTo
-up-to-late firstdata next a n h l u = rw (data-at a n h, le-ltb (n .0) firstdata l, le-leb next (n .0) u) refl
+  pub up-to-late : (firstdata next : ℕ) (a : Widened) (n : DataNumber) → DataAt n ≡ dataOf a → firstdata ≤ n .0 → next ≤ n .0 → nothing w 8 ≡ judgeUpTo w firstdata next a
+  unfolding judgeUpTo
+  up-to-late firstdata next a n h l u = rw (data-at a n h, le-ltb (n .0) firstdata l, le-leb next (n .0) u) refl
 
-pub up-to-named : (firstdata next : ℕ) (a : Widened) (n : DataNumber) → DataAt n ≡ dataOf a → firstdata ≤ n .0 → n .0 < next
-    → record { answer = 0; flags = replicate 32 false; upto = n .0 + 1 } ≡ judgeUpTo 32 firstdata next a
-unfolding judgeUpTo
-up-to-named firstdata next a n h l u = rw (data-at a n h, le-ltb (n .0) firstdata l, lt-leb next (n .0) u) refl
+  pub up-to-named : (firstdata next : ℕ) (a : Widened) (n : DataNumber) → DataAt n ≡ dataOf a → firstdata ≤ n .0 → n .0 < next
+      → record { answer = 0; flags = replicate w false; upto = n .0 + 1 } ≡ judgeUpTo w firstdata next a
+  unfolding judgeUpTo
+  up-to-named firstdata next a n h l u = rw (data-at a n h, le-ltb (n .0) firstdata l, lt-leb next (n .0) u) refl
 
-pub up-to-below : (firstdata next : ℕ) (a : Widened) (m : ℕ) → DataBelow m ≡ dataOf a → nothing 32 8 ≡ judgeUpTo 32 firstdata next a
-unfolding judgeUpTo
-up-to-below firstdata next a m h = rw (data-below a m h) refl
+  pub up-to-below : (firstdata next : ℕ) (a : Widened) (m : ℕ) → DataBelow m ≡ dataOf a → nothing w 8 ≡ judgeUpTo w firstdata next a
+  unfolding judgeUpTo
+  up-to-below firstdata next a m h = rw (data-below a m h) refl
 
--- a vector
-pub listed-early : (firstdata low next : ℕ) (a : Widened) (v : List ℕ) (n : DataNumber) → DataAt n ≡ dataOf a → n .0 < firstdata → nothing 32 8 ≡ judgeListed 32 firstdata low next a v
-unfolding judgeListed
-listed-early firstdata low next a v n h l = rw (data-at a n h, lt-ltb (n .0) firstdata l) refl
+  -- a vector
+  pub listed-early : (firstdata low next : ℕ) (a : Widened) (v : List ℕ) (n : DataNumber) → DataAt n ≡ dataOf a → n .0 < firstdata → nothing w 8 ≡ judgeListed w firstdata low next a v
+  unfolding judgeListed
+  listed-early firstdata low next a v n h l = rw (data-at a n h, lt-ltb (n .0) firstdata l) refl
 
-pub listed-never : (firstdata low next : ℕ) (a : Widened) (v : List ℕ) (n : DataNumber) (x : Walked) → DataAt n ≡ dataOf a → firstdata ≤ n .0
-    → x ≡ walkOf 32 (statesOf v) (n .0) next low (replicate 32 false) → x .never ≡ true → nothing 32 8 ≡ judgeListed 32 firstdata low next a v
-unfolding judgeListed fromWalk
-listed-never firstdata low next a v n x h l e t = rw (data-at a n h, le-ltb (n .0) firstdata l, ← e, t) refl
+  pub listed-never : (firstdata low next : ℕ) (a : Widened) (v : List ℕ) (n : DataNumber) (x : Walked) → DataAt n ≡ dataOf a → firstdata ≤ n .0
+      → x ≡ walkOf w (statesOf v) (n .0) next low (replicate w false) → x .never ≡ true → nothing w 8 ≡ judgeListed w firstdata low next a v
+  unfolding judgeListed fromWalk
+  listed-never firstdata low next a v n x h l e t = rw (data-at a n h, le-ltb (n .0) firstdata l, ← e, t) refl
 
-pub listed-named : (firstdata low next : ℕ) (a : Widened) (v : List ℕ) (n : DataNumber) (x : Walked) → DataAt n ≡ dataOf a → firstdata ≤ n .0
-    → x ≡ walkOf 32 (statesOf v) (n .0) next low (replicate 32 false) → x .never ≡ false
-    → record { answer = 0; flags = x .flags; upto = 0 } ≡ judgeListed 32 firstdata low next a v
-unfolding judgeListed fromWalk
-listed-named firstdata low next a v n x h l e t = rw (data-at a n h, le-ltb (n .0) firstdata l, ← e, t) refl
+  pub listed-named : (firstdata low next : ℕ) (a : Widened) (v : List ℕ) (n : DataNumber) (x : Walked) → DataAt n ≡ dataOf a → firstdata ≤ n .0
+      → x ≡ walkOf w (statesOf v) (n .0) next low (replicate w false) → x .never ≡ false
+      → record { answer = 0; flags = x .flags; upto = 0 } ≡ judgeListed w firstdata low next a v
+  unfolding judgeListed fromWalk
+  listed-named firstdata low next a v n x h l e t = rw (data-at a n h, le-ltb (n .0) firstdata l, ← e, t) refl
 
-pub listed-below : (firstdata low next : ℕ) (a : Widened) (v : List ℕ) (m : ℕ) → DataBelow m ≡ dataOf a → nothing 32 8 ≡ judgeListed 32 firstdata low next a v
-unfolding judgeListed
-listed-below firstdata low next a v m h = rw (data-below a m h) refl
+  pub listed-below : (firstdata low next : ℕ) (a : Widened) (v : List ℕ) (m : ℕ) → DataBelow m ≡ dataOf a → nothing w 8 ≡ judgeListed w firstdata low next a v
+  unfolding judgeListed
+  listed-below firstdata low next a v m h = rw (data-below a m h) refl
 
--- a judged acknowledgement, applied
-applied-not : (s : Sender) (j : Judged) → (j .answer ≡ 0 → ⊥) → s ≡ appliedOf 32 s j
-unfolding appliedOf
-applied-not s j h = unless _ _ _ _ (ne-eqb _ _ h) refl
+  -- a judged acknowledgement, applied
+  applied-not : (s : Sender) (j : Judged) → (j .answer ≡ 0 → ⊥) → s ≡ appliedOf w s j
+  unfolding appliedOf
+  applied-not s j h = unless _ _ _ _ (ne-eqb _ _ h) refl
 
-applied-so : (s r : Sender) (j : Judged) → j .answer ≡ 0 → r ≡ turnedOf 32 acknowledging (chosenBy 32 (j .flags) (j .upto)) s → r ≡ appliedOf 32 s j
-unfolding appliedOf
-applied-so s r j h e = when _ _ _ _ (eq-eqb _ _ h) e
+  -- the whole call
+  pub ack-unfit : (s : Sender) (d : List ℕ) → consistentOf w w s ≡ false → (13 ≡ acknowledgeAnswer w w s d) × (s ≡ acknowledgeOf w w s d)
+  unfolding acknowledgeAnswer acknowledgeOf
+  ack-unfit s d h = (unless _ _ _ _ h refl, unless _ _ _ _ h refl)
 
--- the whole call
-pub ack-unfit : (s : Sender) (d : List ℕ) → consistentOf 32 32 s ≡ false → (13 ≡ acknowledgeAnswer 32 32 s d) × (s ≡ acknowledgeOf 32 32 s d)
-unfolding acknowledgeAnswer acknowledgeOf
-ack-unfit s d h = (unless _ _ _ _ h refl, unless _ _ _ _ h refl)
+  pub ack-refused : (s : Sender) (d : List ℕ) (n : ℕ) → consistentOf w w s ≡ true → Refused n ≡ readOf d → (n ≡ acknowledgeAnswer w w s d) × (s ≡ acknowledgeOf w w s d)
+  unfolding acknowledgeAnswer acknowledgeOf readAnswer readInto
+  ack-refused s d n h e =
+      (when _ _ _ _ h (ap (readAnswer s d) e), when _ _ _ _ h (ap (readInto w s d) e))
 
-pub ack-refused : (s : Sender) (d : List ℕ) (n : ℕ) → consistentOf 32 32 s ≡ true → Refused n ≡ readOf d → (n ≡ acknowledgeAnswer 32 32 s d) × (s ≡ acknowledgeOf 32 32 s d)
-unfolding acknowledgeAnswer acknowledgeOf readAnswer readInto
-ack-refused s d n h e =
-    (when _ _ _ _ h (ap (readAnswer s d) e), when _ _ _ _ h (ap (readInto 32 s d) e))
+  pub ack-dummy : (s : Sender) (d : List ℕ) → consistentOf w w s ≡ true → Dummy ≡ readOf d → (0 ≡ acknowledgeAnswer w w s d) × (s ≡ acknowledgeOf w w s d)
+  unfolding acknowledgeAnswer acknowledgeOf readAnswer readInto
+  ack-dummy s d h e =
+      (when _ _ _ _ h (ap (readAnswer s d) e), when _ _ _ _ h (ap (readInto w s d) e))
 
-pub ack-dummy : (s : Sender) (d : List ℕ) → consistentOf 32 32 s ≡ true → Dummy ≡ readOf d → (0 ≡ acknowledgeAnswer 32 32 s d) × (s ≡ acknowledgeOf 32 32 s d)
-unfolding acknowledgeAnswer acknowledgeOf readAnswer readInto
-ack-dummy s d h e =
-    (when _ _ _ _ h (ap (readAnswer s d) e), when _ _ _ _ h (ap (readInto 32 s d) e))
+  ack-read : (s q : Sender) (d : List ℕ) (p : Packet) (j : Judged) → consistentOf w w s ≡ true → Read p ≡ readOf d → j .answer ≡ toldAnswer s (toldBy s d p)
+      → appliedOf w s j ≡ toldOf w s (toldBy s d p) → q ≡ appliedOf w s j → (j .answer ≡ acknowledgeAnswer w w s d) × (q ≡ acknowledgeOf w w s d)
+  unfolding acknowledgeAnswer acknowledgeOf readAnswer readInto
+  ack-read s q d p j h e a b c =
+      (when _ _ _ _ h (a ∙ ap (readAnswer s d) e), when _ _ _ _ h (c ∙ b ∙ ap (readInto w s d) e))
 
-ack-read : (s q : Sender) (d : List ℕ) (p : Packet) (j : Judged) → consistentOf 32 32 s ≡ true → Read p ≡ readOf d → j .answer ≡ toldAnswer s (toldBy s d p)
-    → appliedOf 32 s j ≡ toldOf 32 s (toldBy s d p) → q ≡ appliedOf 32 s j → (j .answer ≡ acknowledgeAnswer 32 32 s d) × (q ≡ acknowledgeOf 32 32 s d)
-unfolding acknowledgeAnswer acknowledgeOf readAnswer readInto
-ack-read s q d p j h e a b c =
-    (when _ _ _ _ h (a ∙ ap (readAnswer s d) e), when _ _ _ _ h (c ∙ b ∙ ap (readInto 32 s d) e))
+  pub ack-kept : (s : Sender) (d : List ℕ) (p : Packet) (j : Judged) → consistentOf w w s ≡ true → Read p ≡ readOf d → j .answer ≡ toldAnswer s (toldBy s d p)
+      → appliedOf w s j ≡ toldOf w s (toldBy s d p) → (j .answer ≡ 0 → ⊥) → (j .answer ≡ acknowledgeAnswer w w s d) × (s ≡ acknowledgeOf w w s d)
+  ack-kept s d p j h e a b n = ack-read s s d p j h e a b (applied-not s j n)
 
-pub ack-kept : (s : Sender) (d : List ℕ) (p : Packet) (j : Judged) → consistentOf 32 32 s ≡ true → Read p ≡ readOf d → j .answer ≡ toldAnswer s (toldBy s d p)
-    → appliedOf 32 s j ≡ toldOf 32 s (toldBy s d p) → (j .answer ≡ 0 → ⊥) → (j .answer ≡ acknowledgeAnswer 32 32 s d) × (s ≡ acknowledgeOf 32 32 s d)
-ack-kept s d p j h e a b n = ack-read s s d p j h e a b (applied-not s j n)
-
-pub ack-turned : (s q : Sender) (d : List ℕ) (p : Packet) (j : Judged) → consistentOf 32 32 s ≡ true → Read p ≡ readOf d → j .answer ≡ toldAnswer s (toldBy s d p)
-    → appliedOf 32 s j ≡ toldOf 32 s (toldBy s d p) → j .answer ≡ 0 → q ≡ turnedOf 32 acknowledging (chosenBy 32 (j .flags) (j .upto)) s
-    → (0 ≡ acknowledgeAnswer 32 32 s d) × (q ≡ acknowledgeOf 32 32 s d)
-ack-turned s q d p j h e a b z t =
-    let r = ack-read s q d p j h e a b (applied-so s q j z t) in
-    (sym z ∙ r .0, r .1)
+  pub ack-turned : (s q : Sender) (d : List ℕ) (p : Packet) (j : Judged) → consistentOf w w s ≡ true → Read p ≡ readOf d → j .answer ≡ toldAnswer s (toldBy s d p)
+      → appliedOf w s j ≡ toldOf w s (toldBy s d p) → j .answer ≡ 0 → q ≡ turnedOf w acknowledging (chosenBy w (j .flags) (j .upto)) s
+      → (0 ≡ acknowledgeAnswer w w s d) × (q ≡ acknowledgeOf w w s d)
+  ack-turned s q d p j h e a b z t =
+      let r = ack-read s q d p j h e a b (t ∙ sym (applied-so w s j z)) in
+      (sym z ∙ r .0, r .1)

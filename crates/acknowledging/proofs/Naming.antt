@@ -1,4 +1,4 @@
--- What a walk tells of the numbers: whether one was never sent, and which are flagged.
+-- What a walk tells of the numbers, over any window w: whether one was never sent, and which are flagged.
 use Prim.Native.Nat.{ℕ, suc, _+_, _-_, _%_, _≤_, _<_}
 use mathlib.Core.Bool.{Bool, true, false, cond}
 use mathlib.Core.List.{List, [], _∷_}
@@ -15,13 +15,6 @@ use Rattle.wire.specs.Flags.{both, either}
 use Rattle.window.specs.Places.{place-same}
 use Rattle.sender.specs.Acknowledge.{namesUnsent}
 use Rattle.acknowledging.specs.Walk.{walkOf}
-
-pub walk-never : (ts : List Bool) (n next low : ℕ) (flags : List Bool) → walkOf 32 ts n next low flags .never ≡ namesUnsent ts n next
-unfolding walkOf namesUnsent
-walk-never [] n next low flags = refl
-walk-never (t ∷ ts) n next low flags =
-    let k = walk-never ts (n + 1) next low (set flags (n % 32) (cond (getD flags (n % 32) false) true (cond t (leb low n) false))) in
-    ⊎-elim (λ (e : cond t (leb next n) false ≡ true). rw e refl) (λ (e : cond t (leb next n) false ≡ false). rw e k) (bool (cond t (leb next n) false))
 
 -- the state that some states from n on give number m
 abbrev pub stateAt : List Bool → ℕ → ℕ → Bool
@@ -83,64 +76,73 @@ both-true : (a b : Bool) → both a b ≡ true → (a ≡ true) × (b ≡ true)
 both-true true b h = (refl, h)
 both-true false b h = clash false h refl
 
--- one state: the flag of number m afterwards
-flag-step : (t : Bool) (n next low : ℕ) (flags : List Bool) → length flags ≡ 32 → next ≤ low + 32 → both t (leb next n) ≡ false → (m : ℕ) → low ≤ m → m < low + 32
-    → getD (set flags (n % 32) (either (getD flags (n % 32) false) (both t (leb low n)))) (m % 32) false ≡ either (getD flags (m % 32) false) (both t (eqb n m))
-flag-step t n next low flags sz room un m l u = ⊎-elim marks leaves (bool (both t (leb low n)))
-  where
-    new : Bool
-    new = either (getD flags (n % 32) false) (both t (leb low n))
+module _ (w : ℕ) where
+  -- whether a number was never sent
+  pub walk-never : (ts : List Bool) (n next low : ℕ) (flags : List Bool) → walkOf w ts n next low flags .never ≡ namesUnsent ts n next
+  unfolding walkOf namesUnsent
+  walk-never [] n next low flags = refl
+  walk-never (t ∷ ts) n next low flags =
+      let k = walk-never ts (n + 1) next low (set flags (n % w) (cond (getD flags (n % w) false) true (cond t (leb low n) false))) in
+      ⊎-elim (λ (e : cond t (leb next n) false ≡ true). rw e refl) (λ (e : cond t (leb next n) false ≡ false). rw e k) (bool (cond t (leb next n) false))
 
-    small : n % 32 < length flags
-    small = let k : n % 32 < 32 = mod-lt n (omega arith) in omega arith
+  -- one state: the flag of number m afterwards
+  flag-step : (t : Bool) (n next low : ℕ) (flags : List Bool) → length flags ≡ w → next ≤ low + w → both t (leb next n) ≡ false → (m : ℕ) → low ≤ m → m < low + w
+      → getD (set flags (n % w) (either (getD flags (n % w) false) (both t (leb low n)))) (m % w) false ≡ either (getD flags (m % w) false) (both t (eqb n m))
+  flag-step t n next low flags sz room un m l u = ⊎-elim marks leaves (bool (both t (leb low n)))
+    where
+      new : Bool
+      new = either (getD flags (n % w) false) (both t (leb low n))
 
-    marks : both t (leb low n) ≡ true → getD (set flags (n % 32) new) (m % 32) false ≡ either (getD flags (m % 32) false) (both t (eqb n m))
-    marks x =
-        let (tx, lx) = both-true t (leb low n) x in
-        let ln : low ≤ n = leb-true low n lx in
-        let nn : leb next n ≡ false = ap (λ (b : Bool). both b (leb next n)) (sym tx) ∙ un in
-        let above : n < next = leb-false next n nn in
-        ⊎-elim
-        (λ (e : eqb n m ≡ true). let e2 = eqb-true n m e in
-        ap (λ (z : ℕ). getD (set flags (n % 32) new) (z % 32) false) (sym e2) ∙ getD-set-same flags (n % 32) new false small
-        ∙ ap (λ (b : Bool). either (getD flags (n % 32) false) b) x ∙ either-yes (getD flags (n % 32) false) ∙ sym (either-yes (getD flags (m % 32) false))
-        ∙ ap (λ (b : Bool). either (getD flags (m % 32) false) b) (sym (ap (λ (b : Bool). both b (eqb n m)) tx ∙ e)))
-        (λ (e : eqb n m ≡ false). let ne = eqb-false n m e in
-        getD-set-other flags (n % 32) (m % 32) new false (λ z. ne (sym (place-same 32 low m n l u ln (omega arith) z)))
-        ∙ sym (ap (λ (b : Bool). either (getD flags (m % 32) false) b) (ap (λ (b : Bool). both b (eqb n m)) tx ∙ e) ∙ either-no (getD flags (m % 32) false)))
-        (bool (eqb n m))
+      small : n % w < length flags
+      small = let k : n % w < w = mod-lt n (omega arith) in omega arith
 
-    off : both t (leb low n) ≡ false → both t (eqb n m) ≡ false
-    off x =
-        ⊎-elim
-        (λ (e : eqb n m ≡ true). ap (λ (b : Bool). both t b) (e ∙ sym (le-leb low n (omega (arith, eqb-true n m e)))) ∙ x)
-        (λ (e : eqb n m ≡ false). ap (λ (b : Bool). both t b) e ∙ both-no t)
-        (bool (eqb n m))
+      marks : both t (leb low n) ≡ true → getD (set flags (n % w) new) (m % w) false ≡ either (getD flags (m % w) false) (both t (eqb n m))
+      marks x =
+          let (tx, lx) = both-true t (leb low n) x in
+          let ln : low ≤ n = leb-true low n lx in
+          let nn : leb next n ≡ false = ap (λ (b : Bool). both b (leb next n)) (sym tx) ∙ un in
+          let above : n < next = leb-false next n nn in
+          ⊎-elim
+          (λ (e : eqb n m ≡ true). let e2 = eqb-true n m e in
+          ap (λ (z : ℕ). getD (set flags (n % w) new) (z % w) false) (sym e2) ∙ getD-set-same flags (n % w) new false small
+          ∙ ap (λ (b : Bool). either (getD flags (n % w) false) b) x ∙ either-yes (getD flags (n % w) false) ∙ sym (either-yes (getD flags (m % w) false))
+          ∙ ap (λ (b : Bool). either (getD flags (m % w) false) b) (sym (ap (λ (b : Bool). both b (eqb n m)) tx ∙ e)))
+          (λ (e : eqb n m ≡ false). let ne = eqb-false n m e in
+          getD-set-other flags (n % w) (m % w) new false (λ z. ne (sym (place-same w low m n l u ln (omega arith) z)))
+          ∙ sym (ap (λ (b : Bool). either (getD flags (m % w) false) b) (ap (λ (b : Bool). both b (eqb n m)) tx ∙ e) ∙ either-no (getD flags (m % w) false)))
+          (bool (eqb n m))
 
-    leaves : both t (leb low n) ≡ false → getD (set flags (n % 32) new) (m % 32) false ≡ either (getD flags (m % 32) false) (both t (eqb n m))
-    leaves x =
-        let nw : new ≡ getD flags (n % 32) false = ap (λ (b : Bool). either (getD flags (n % 32) false) b) x ∙ either-no (getD flags (n % 32) false) in
-        let same : getD (set flags (n % 32) new) (m % 32) false ≡ getD flags (m % 32) false =
-        ⊎-elim
-        (λ e. let e2 = eqb-true (m % 32) (n % 32) e in
-        ap (λ (z : ℕ). getD (set flags (n % 32) new) z false) e2 ∙ getD-set-same flags (n % 32) new false small ∙ nw ∙ ap (λ (z : ℕ). getD flags z false) (sym e2))
-        (λ e. getD-set-other flags (n % 32) (m % 32) new false (eqb-false (m % 32) (n % 32) e))
-        (bool (eqb (m % 32) (n % 32))) in
-        same ∙ sym (ap (λ (b : Bool). either (getD flags (m % 32) false) b) (off x) ∙ either-no (getD flags (m % 32) false))
+      off : both t (leb low n) ≡ false → both t (eqb n m) ≡ false
+      off x =
+          ⊎-elim
+          (λ (e : eqb n m ≡ true). ap (λ (b : Bool). both t b) (e ∙ sym (le-leb low n (omega (arith, eqb-true n m e)))) ∙ x)
+          (λ (e : eqb n m ≡ false). ap (λ (b : Bool). both t b) e ∙ both-no t)
+          (bool (eqb n m))
 
--- A walk that ends flags the named numbers from low on.
-pub walk-flags : (ts : List Bool) (n next low : ℕ) (flags : List Bool) → length flags ≡ 32 → next ≤ low + 32 → namesUnsent ts n next ≡ false → (m : ℕ) → low ≤ m → m < low + 32
-    → getD (walkOf 32 ts n next low flags .flags) (m % 32) false ≡ either (getD flags (m % 32) false) (stateAt ts n m)
-unfolding walkOf namesUnsent
-walk-flags [] n next low flags sz room un m l u = sym (ap (either (getD flags (m % 32) false)) (state-none n m) ∙ either-no (getD flags (m % 32) false))
-walk-flags (t ∷ ts) n next low flags sz room un m l u =
-    let new = either (getD flags (n % 32) false) (both t (leb low n)) in
-    ⊎-elim
-    (λ (x : both t (leb next n) ≡ true). clash (cond (both t (leb next n)) true (namesUnsent ts (n + 1) next)) (ap (λ (b : Bool). cond b true (namesUnsent ts (n + 1) next)) x) un)
-    (λ (x : both t (leb next n) ≡ false).
-    let rest : namesUnsent ts (n + 1) next ≡ false = ap (λ (b : Bool). cond b true (namesUnsent ts (n + 1) next)) (sym x) ∙ un in
-    let k = walk-flags ts (n + 1) next low (set flags (n % 32) new) (length-set flags (n % 32) new ∙ sz) room rest m l u in
-    ap (λ (b : Bool). getD (cond b (record { never = true; flags = flags }) (walkOf 32 ts (n + 1) next low (set flags (n % 32) new)) .flags) (m % 32) false) x ∙ k
-    ∙ ap (λ (b : Bool). either b (stateAt ts (n + 1) m)) (flag-step t n next low flags sz room x m l u)
-    ∙ either-of (getD flags (m % 32) false) (both t (eqb n m)) (stateAt ts (n + 1) m) ∙ ap (either (getD flags (m % 32) false)) (sym (state-step t ts n m)))
-    (bool (both t (leb next n)))
+      leaves : both t (leb low n) ≡ false → getD (set flags (n % w) new) (m % w) false ≡ either (getD flags (m % w) false) (both t (eqb n m))
+      leaves x =
+          let nw : new ≡ getD flags (n % w) false = ap (λ (b : Bool). either (getD flags (n % w) false) b) x ∙ either-no (getD flags (n % w) false) in
+          let same : getD (set flags (n % w) new) (m % w) false ≡ getD flags (m % w) false =
+          ⊎-elim
+          (λ e. let e2 = eqb-true (m % w) (n % w) e in
+          ap (λ (z : ℕ). getD (set flags (n % w) new) z false) e2 ∙ getD-set-same flags (n % w) new false small ∙ nw ∙ ap (λ (z : ℕ). getD flags z false) (sym e2))
+          (λ e. getD-set-other flags (n % w) (m % w) new false (eqb-false (m % w) (n % w) e))
+          (bool (eqb (m % w) (n % w))) in
+          same ∙ sym (ap (λ (b : Bool). either (getD flags (m % w) false) b) (off x) ∙ either-no (getD flags (m % w) false))
+
+  -- A walk that ends flags the named numbers from low on.
+  pub walk-flags : (ts : List Bool) (n next low : ℕ) (flags : List Bool) → length flags ≡ w → next ≤ low + w → namesUnsent ts n next ≡ false → (m : ℕ) → low ≤ m → m < low + w
+      → getD (walkOf w ts n next low flags .flags) (m % w) false ≡ either (getD flags (m % w) false) (stateAt ts n m)
+  unfolding walkOf namesUnsent
+  walk-flags [] n next low flags sz room un m l u = sym (ap (either (getD flags (m % w) false)) (state-none n m) ∙ either-no (getD flags (m % w) false))
+  walk-flags (t ∷ ts) n next low flags sz room un m l u =
+      let new = either (getD flags (n % w) false) (both t (leb low n)) in
+      ⊎-elim
+      (λ (x : both t (leb next n) ≡ true). clash (cond (both t (leb next n)) true (namesUnsent ts (n + 1) next)) (ap (λ (b : Bool). cond b true (namesUnsent ts (n + 1) next)) x) un)
+      (λ (x : both t (leb next n) ≡ false).
+      let rest : namesUnsent ts (n + 1) next ≡ false = ap (λ (b : Bool). cond b true (namesUnsent ts (n + 1) next)) (sym x) ∙ un in
+      let k = walk-flags ts (n + 1) next low (set flags (n % w) new) (length-set flags (n % w) new ∙ sz) room rest m l u in
+      ap (λ (b : Bool). getD (cond b (record { never = true; flags = flags }) (walkOf w ts (n + 1) next low (set flags (n % w) new)) .flags) (m % w) false) x ∙ k
+      ∙ ap (λ (b : Bool). either b (stateAt ts (n + 1) m)) (flag-step t n next low flags sz room x m l u)
+      ∙ either-of (getD flags (m % w) false) (both t (eqb n m)) (stateAt ts (n + 1) m) ∙ ap (either (getD flags (m % w) false)) (sym (state-step t ts n m)))
+      (bool (both t (leb next n)))

@@ -1,4 +1,4 @@
--- A judged acknowledgement answers as what it tells, and applied it gives the record that this names.
+-- A judged acknowledgement answers as what it tells, and applied it gives the record that this names, over any window w.
 use Prim.Native.Nat.{ℕ, _+_, _-_, _%_, _≤_, _<_}
 use mathlib.Core.Bool.{Bool, true, false, cond}
 use mathlib.Core.List.{List, [], _∷_}
@@ -34,94 +34,95 @@ use Rattle.sender.specs.Facts.{consistent-facts}
 use Rattle.turning.proofs.Turned.{chosen-flag, turned-ext, turned-nothing}
 use Rattle.acknowledging.proofs.Naming.{stateAt, walk-never, walk-flags}
 
--- what is to be shown of a judged acknowledgement
-pub record Right (s : Sender) (t : Told) (j : Judged) : Type 0 where
-  pub answer : j .answer ≡ toldAnswer s t
-  pub applied : appliedOf 32 s j ≡ toldOf 32 s t
+module _ (w : ℕ) where
+  -- what is to be shown of a judged acknowledgement
+  pub record Right (s : Sender) (t : Told) (j : Judged) : Type 0 where
+    pub answer : j .answer ≡ toldAnswer s t
+    pub applied : appliedOf w s j ≡ toldOf w s t
 
-chosen-below : (upto n : ℕ) → chosenBy 32 (replicate 32 false) upto n ≡ ltb n upto
-unfolding chosenBy
-chosen-below upto n = rw (always 32 (n % 32) false) refl
+  chosen-below : (upto n : ℕ) → chosenBy w (replicate w false) upto n ≡ ltb n upto
+  unfolding chosenBy
+  chosen-below upto n = rw (always w (n % w) false) refl
 
-up-to : (m n : ℕ) → chosenBy 32 (replicate 32 false) (m + 1) n ≡ leb n m
-up-to m n =
-    chosen-below (m + 1) n
-    ∙ ⊎-elim (λ l. lt-ltb n (m + 1) l ∙ sym (le-leb n m (omega arith))) (λ g. le-ltb n (m + 1) g ∙ sym (lt-leb n m (omega arith))) (lt-or-ge n (m + 1))
+  up-to : (m n : ℕ) → chosenBy w (replicate w false) (m + 1) n ≡ leb n m
+  up-to m n =
+      chosen-below (m + 1) n
+      ∙ ⊎-elim (λ l. lt-ltb n (m + 1) l ∙ sym (le-leb n m (omega arith))) (λ g. le-ltb n (m + 1) g ∙ sym (lt-leb n m (omega arith))) (lt-or-ge n (m + 1))
 
-silent-right : (s : Sender) → consistentOf 32 32 s ≡ true → Right s silent (nothing 32 0)
-unfolding toldAnswer toldOf appliedOf
-silent-right s h =
-    let f = consistent-facts 32 32 s (omega arith) (omega arith) h in
-    record {
-      answer = refl;
-      applied = sym (turned-nothing 32 acknowledging _ s (λ n. chosen-below 0 n ∙ le-ltb n 0 (omega arith)) (f .lowStands) (f .channelStands));
-    }
+  silent-right : (s : Sender) → 0 < w → consistentOf w w s ≡ true → Right s silent (nothing w 0)
+  unfolding toldAnswer toldOf appliedOf
+  silent-right s lw h =
+      let f = consistent-facts w w s lw (omega arith) h in
+      record {
+        answer = refl;
+        applied = sym (turned-nothing w acknowledging _ s (λ n. chosen-below 0 n ∙ le-ltb n 0 (omega arith)) (f .lowStands) (f .channelStands));
+      }
 
--- two tests, each of which refuses with 8
-two-answers : (b c : Bool) (j : Judged) → j .answer ≡ 0 → cond b (nothing 32 8) (cond c (nothing 32 8) j) .answer ≡ first (test b 8 ∷ test c 8 ∷ [])
-unfolding first
-two-answers true c j e = refl
-two-answers false true j e = refl
-two-answers false false j e = e
+  -- two tests, each of which refuses with 8
+  two-answers : (b c : Bool) (j : Judged) → j .answer ≡ 0 → cond b (nothing w 8) (cond c (nothing w 8) j) .answer ≡ first (test b 8 ∷ test c 8 ∷ [])
+  unfolding first
+  two-answers true c j e = refl
+  two-answers false true j e = refl
+  two-answers false false j e = e
 
-two-applied : (s x : Sender) (b c : Bool) (j : Judged) → (c ≡ false → appliedOf 32 s j ≡ x)
-    → appliedOf 32 s (cond b (nothing 32 8) (cond c (nothing 32 8) j)) ≡ cond (eqb (first (test b 8 ∷ test c 8 ∷ [])) 0) x s
-unfolding first appliedOf
-two-applied s x true c j h = refl
-two-applied s x false true j h = refl
-two-applied s x false false j h = h refl
+  two-applied : (s x : Sender) (b c : Bool) (j : Judged) → (c ≡ false → appliedOf w s j ≡ x)
+      → appliedOf w s (cond b (nothing w 8) (cond c (nothing w 8) j)) ≡ cond (eqb (first (test b 8 ∷ test c 8 ∷ [])) 0) x s
+  unfolding first appliedOf
+  two-applied s x true c j h = refl
+  two-applied s x false true j h = refl
+  two-applied s x false false j h = h refl
 
-up-to-right : (s : Sender) (a : Widened) → Right s (upTo a) (judgeUpTo 32 (s .firstdata .0) (s .next .0) a)
-unfolding toldAnswer toldOf toldNames appliedOf judgeUpTo acknowledgedOf first
-up-to-right s (Below m) = record { answer = refl; applied = refl }
-up-to-right s (At m) =
-    record {
-      answer = two-answers (ltb m (s .firstdata .0)) (leb (s .next .0) m) (record { answer = 0; flags = replicate 32 false; upto = m + 1 }) refl;
-      applied = two-applied s (acknowledgedOf 32 s (toldNames (upTo (At m)))) (ltb m (s .firstdata .0)) (leb (s .next .0) m)
-          (record { answer = 0; flags = replicate 32 false; upto = m + 1 }) (λ e. turned-ext 32 acknowledging _ _ s (λ n l u. up-to m n));
-    }
+  up-to-right : (s : Sender) (a : Widened) → Right s (upTo a) (judgeUpTo w (s .firstdata .0) (s .next .0) a)
+  unfolding toldAnswer toldOf toldNames appliedOf judgeUpTo acknowledgedOf first
+  up-to-right s (Below m) = record { answer = refl; applied = refl }
+  up-to-right s (At m) =
+      record {
+        answer = two-answers (ltb m (s .firstdata .0)) (leb (s .next .0) m) (record { answer = 0; flags = replicate w false; upto = m + 1 }) refl;
+        applied = two-applied s (acknowledgedOf w s (toldNames (upTo (At m)))) (ltb m (s .firstdata .0)) (leb (s .next .0) m)
+            (record { answer = 0; flags = replicate w false; upto = m + 1 }) (λ e. turned-ext w acknowledging _ _ s (λ n l u. up-to m n));
+      }
 
--- the flags of a walk that ends choose what the vector names
-walk-chooses : (s : Sender) (m : ℕ) (v : List ℕ) → consistentOf 32 32 s ≡ true → namesUnsent (statesOf v) m (s .next .0) ≡ false → (n : ℕ) → s .low .0 ≤ n → n < s .low .0 + 32
-    → chosenBy 32 (walkOf 32 (statesOf v) m (s .next .0) (s .low .0) (replicate 32 false) .flags) 0 n ≡ names v m n
-unfolding names
-walk-chooses s m v h un n l u =
-    chosen-flag 32 (walkOf 32 (statesOf v) m (s .next .0) (s .low .0) (replicate 32 false) .flags) n
-    ∙ walk-flags (statesOf v) m (s .next .0) (s .low .0) (replicate 32 false) (length-replicate 32 false)
-    (consistent-facts 32 32 s (omega arith) (omega arith) h .bounds .room) un n l u
-    ∙ ap (λ (b : Bool). cond b true (stateAt (statesOf v) m n)) (always 32 (n % 32) false)
+  -- the flags of a walk that ends choose what the vector names
+  walk-chooses : (s : Sender) (m : ℕ) (v : List ℕ) → consistentOf w w s ≡ true → namesUnsent (statesOf v) m (s .next .0) ≡ false → (n : ℕ) → s .low .0 ≤ n → n < s .low .0 + w
+      → chosenBy w (walkOf w (statesOf v) m (s .next .0) (s .low .0) (replicate w false) .flags) 0 n ≡ names v m n
+  unfolding names
+  walk-chooses s m v h un n l u =
+      chosen-flag w (walkOf w (statesOf v) m (s .next .0) (s .low .0) (replicate w false) .flags) n
+      ∙ walk-flags w (statesOf v) m (s .next .0) (s .low .0) (replicate w false) (length-replicate w false)
+      (consistent-facts w w s (omega arith) (omega arith) h .bounds .room) un n l u
+      ∙ ap (λ (b : Bool). cond b true (stateAt (statesOf v) m n)) (always w (n % w) false)
 
-listed-right : (s : Sender) (a : Widened) (v : List ℕ) → consistentOf 32 32 s ≡ true → Right s (listed a v) (judgeListed 32 (s .firstdata .0) (s .low .0) (s .next .0) a v)
-unfolding toldAnswer toldOf toldNames appliedOf judgeListed fromWalk acknowledgedOf first
-listed-right s (Below m) v h = record { answer = refl; applied = refl }
-listed-right s (At m) v h =
-    let x = walkOf 32 (statesOf v) m (s .next .0) (s .low .0) (replicate 32 false) in
-    let e = walk-never (statesOf v) m (s .next .0) (s .low .0) (replicate 32 false) in
-    let j : Judged = record { answer = 0; flags = walkOf 32 (statesOf v) m (s .next .0) (s .low .0) (replicate 32 false) .flags; upto = 0 } in
-    record {
-      answer = ap (λ (c : Bool). cond (ltb m (s .firstdata .0)) (nothing 32 8) (cond c (nothing 32 8) j) .answer) e
-          ∙ two-answers (ltb m (s .firstdata .0)) (namesUnsent (statesOf v) m (s .next .0)) j refl;
-      applied = ap (λ (c : Bool). appliedOf 32 s (cond (ltb m (s .firstdata .0)) (nothing 32 8) (cond c (nothing 32 8) j))) e
-          ∙ two-applied s (acknowledgedOf 32 s (toldNames (listed (At m) v))) (ltb m (s .firstdata .0)) (namesUnsent (statesOf v) m (s .next .0)) j
-          (λ un. turned-ext 32 acknowledging _ _ s (walk-chooses s m v h un));
-    }
+  listed-right : (s : Sender) (a : Widened) (v : List ℕ) → consistentOf w w s ≡ true → Right s (listed a v) (judgeListed w (s .firstdata .0) (s .low .0) (s .next .0) a v)
+  unfolding toldAnswer toldOf toldNames appliedOf judgeListed fromWalk acknowledgedOf first
+  listed-right s (Below m) v h = record { answer = refl; applied = refl }
+  listed-right s (At m) v h =
+      let x = walkOf w (statesOf v) m (s .next .0) (s .low .0) (replicate w false) in
+      let e = walk-never w (statesOf v) m (s .next .0) (s .low .0) (replicate w false) in
+      let j : Judged = record { answer = 0; flags = walkOf w (statesOf v) m (s .next .0) (s .low .0) (replicate w false) .flags; upto = 0 } in
+      record {
+        answer = ap (λ (c : Bool). cond (ltb m (s .firstdata .0)) (nothing w 8) (cond c (nothing w 8) j) .answer) e
+            ∙ two-answers (ltb m (s .firstdata .0)) (namesUnsent (statesOf v) m (s .next .0)) j refl;
+        applied = ap (λ (c : Bool). appliedOf w s (cond (ltb m (s .firstdata .0)) (nothing w 8) (cond c (nothing w 8) j))) e
+            ∙ two-applied s (acknowledgedOf w s (toldNames (listed (At m) v))) (ltb m (s .firstdata .0)) (namesUnsent (statesOf v) m (s .next .0)) j
+            (λ un. turned-ext w acknowledging _ _ s (walk-chooses s m v h un));
+      }
 
--- what a packet tells, by its flags
-pub told-ack : (s : Sender) (d : List ℕ) (p : Packet) (r : Bool) (j : Judged) → r ≡ ackIn (p .values .flags) → r ≡ true
-    → j ≡ judgeUpTo 32 (s .firstdata .0) (s .next .0) (widenOf (s .next .0) (p .values .ack .number)) → Right s (toldBy s d p) j
-unfolding toldBy
-told-ack s d p r j e t q = rw (sym e ∙ t, q) (up-to-right s (widenOf (s .next .0) (p .values .ack .number)))
+  -- what a packet tells, by its flags
+  pub told-ack : (s : Sender) (d : List ℕ) (p : Packet) (r : Bool) (j : Judged) → r ≡ ackIn (p .values .flags) → r ≡ true
+      → j ≡ judgeUpTo w (s .firstdata .0) (s .next .0) (widenOf (s .next .0) (p .values .ack .number)) → Right s (toldBy s d p) j
+  unfolding toldBy
+  told-ack s d p r j e t q = rw (sym e ∙ t, q) (up-to-right s (widenOf (s .next .0) (p .values .ack .number)))
 
-pub told-vector : (s : Sender) (d : List ℕ) (p : Packet) (r q : Bool) (j : Judged) → consistentOf 32 32 s ≡ true → r ≡ ackIn (p .values .flags) → r ≡ false
-    → q ≡ vectorIn (p .values .flags) → q ≡ true
-    → j ≡ judgeListed 32 (s .firstdata .0) (s .low .0) (s .next .0) (widenOf (s .next .0) (p .values .vector .base)) (codedIn d p) → Right s (toldBy s d p) j
-unfolding toldBy
-told-vector s d p r q j h e t f u g = rw (sym e ∙ t, sym f ∙ u, g) (listed-right s (widenOf (s .next .0) (p .values .vector .base)) (codedIn d p) h)
+  pub told-vector : (s : Sender) (d : List ℕ) (p : Packet) (r q : Bool) (j : Judged) → consistentOf w w s ≡ true → r ≡ ackIn (p .values .flags) → r ≡ false
+      → q ≡ vectorIn (p .values .flags) → q ≡ true
+      → j ≡ judgeListed w (s .firstdata .0) (s .low .0) (s .next .0) (widenOf (s .next .0) (p .values .vector .base)) (codedIn d p) → Right s (toldBy s d p) j
+  unfolding toldBy
+  told-vector s d p r q j h e t f u g = rw (sym e ∙ t, sym f ∙ u, g) (listed-right s (widenOf (s .next .0) (p .values .vector .base)) (codedIn d p) h)
 
-pub told-silent : (s : Sender) (d : List ℕ) (p : Packet) (r q : Bool) → consistentOf 32 32 s ≡ true → r ≡ ackIn (p .values .flags) → r ≡ false
-    → q ≡ vectorIn (p .values .flags) → q ≡ false → Right s (toldBy s d p) (nothing 32 0)
-unfolding toldBy
-told-silent s d p r q h e t f u = rw (sym e ∙ t, sym f ∙ u) (silent-right s h)
+  pub told-silent : (s : Sender) (d : List ℕ) (p : Packet) (r q : Bool) → 0 < w → consistentOf w w s ≡ true → r ≡ ackIn (p .values .flags) → r ≡ false
+      → q ≡ vectorIn (p .values .flags) → q ≡ false → Right s (toldBy s d p) (nothing w 0)
+  unfolding toldBy
+  told-silent s d p r q lw h e t f u = rw (sym e ∙ t, sym f ∙ u) (silent-right s lw h)
 
 -- where the vector of a packet that was read stands
 pub record Vectored (d : List ℕ) (at size : ℕ) : Type 0 where

@@ -3,6 +3,8 @@
 use Prim.Native.Nat.{ℕ, _+_, _%_}
 use mathlib.Core.Bool.{Bool, true, false, cond}
 use mathlib.Core.List.{List, [], _∷_}
+use mathlib.Core.Path.{_≡_, refl}
+use borrow.Author.Tests.{eq-eqb}
 use lib.ListN.{getD, set, replicate}
 use lib.Dec.{leb, ltb, eqb}
 use Rattle.numbers.specs.declared.Widened.{Widened}
@@ -45,3 +47,7 @@ judgeListed w firstdata low next (Below m) v = nothing w 8
 -- the record after a judged acknowledgement
 unfoldable pub appliedOf : ℕ → Sender → Judged → Sender
 appliedOf w s j = cond (eqb (j .answer) 0) (turnedOf w acknowledging (chosenBy w (j .flags) (j .upto)) s) s
+
+pub applied-so : (w : ℕ) (s : Sender) (j : Judged) → j .answer ≡ 0 → appliedOf w s j ≡ turnedOf w acknowledging (chosenBy w (j .flags) (j .upto)) s
+unfolding appliedOf
+applied-so w s j h = rw (eq-eqb (j .answer) 0 h) refl

@@ -20,7 +20,6 @@ use sender::checking;
 use wire::Packet;
 use wire::Reading;
 use wire::bits;
-use wire::reader;
 
 // What the walk of a vector tells.
 pub struct Walked {
@@ -81,7 +80,7 @@ fn walk(d: &[u8], at: usize, size: usize, base: u64, next: u64, low: u64) -> Wal
     let mut never = false;
     let mut j: usize = 0;
     'bytes: while j < size {
-        let b = reader::byte_at(d, at + j);
+        let b = parts::byte_at(d, at + j);
         let span = vector::span(b);
         let mut i: u8 = 0;
         while i < span {

@@ -13,13 +13,13 @@ use Rattle.wire.specs.Same.{bodyIn}
 use Rattle.window.specs.Window.{Win, lifted, slid}
 use Rattle.receiver.specs.declared.Hold.{Hold}
 use Rattle.receiver.specs.declared.Receiver.{Receiver}
-use Rattle.arriving.specs.declared.packet.Arrived.{Arrived}
-use Rattle.arriving.specs.declared.packet.Arrived.the-variants.{Refused, Nothing, Waiver, Content}
+use Rattle.judging.specs.declared.Arrived.{Arrived}
+use Rattle.judging.specs.declared.Arrived.the-variants.{Refused, Nothing, Waiver, Content}
 use Rattle.receiver.specs.Record.{State, state, isMarked, empty, holding, marksOf}
 use Rattle.receiver.specs.Packet.{Packet, marked, marksAfter, isNew, keeps, receiverAfter}
 use Rattle.receiver.specs.Receive.{valuesOf}
-use Rattle.arriving.specs.Judge.{judgedOf, packetWith, leftBy}
-use Rattle.arriving.specs.Judged.{judged-leaves}
+use Rattle.judging.specs.Judge.{judgedOf, packetWith, leftBy}
+use Rattle.judging.specs.Judged.{judged-leaves}
 
 -- THE BLOCK
 

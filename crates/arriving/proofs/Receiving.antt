@@ -9,12 +9,12 @@ use Rattle.wire.specs.declared.Reading.{Reading}
 use Rattle.wire.specs.declared.Reading.the-variants.{Refused, Dummy, Read}
 use Rattle.wire.specs.Read.{readOf}
 use Rattle.receiver.specs.declared.Receiver.{Receiver}
-use Rattle.arriving.specs.declared.packet.Arrived.{Arrived}
+use Rattle.judging.specs.declared.Arrived.{Arrived}
 use Rattle.receiver.specs.Record.{State, state}
 use Rattle.receiver.specs.Consistent.{soundOf}
 use Rattle.receiver.specs.Receive.{valuesOf, readAnswer, readInto, receiveAnswer, receiveOf}
-use Rattle.arriving.specs.Judge.{numberOf, judgedOf}
-use Rattle.arriving.specs.Judged.{judged-answer}
+use Rattle.judging.specs.Judge.{numberOf, judgedOf}
+use Rattle.judging.specs.Judged.{judged-answer}
 
 -- an answer, a record and a store that are what receiving answers and leaves
 abbrev pub Gives : ℕ → ℕ → Receiver → List ℕ → List ℕ → ℕ → Receiver → List ℕ → Type 0

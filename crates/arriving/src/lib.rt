@@ -29,7 +29,7 @@ pub fn receive(r: Receiver, store: &mut [u8], d: &[u8]) -> Received
             answer: 13,
         };
     }
-    match wire::reader::read(d) {
+    match reader::read(d) {
         Reading::Refused(n) => Received {
             receiver: r,
             answer: n,
@@ -40,11 +40,11 @@ pub fn receive(r: Receiver, store: &mut [u8], d: &[u8]) -> Received
         },
         Reading::Read(p) => {
             let values = p.values;
-            let a = packet::judge(r, values);
+            let a = judging::judge(r, values);
             let q = packet::apply(r, store, d, p, a);
             Received {
                 receiver: q,
-                answer: packet::number(a),
+                answer: judging::number(a),
             }
         }
     }

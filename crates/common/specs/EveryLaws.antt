@@ -50,11 +50,6 @@ every-skip b bs h = rw h refl
 pub every-first : (b : Bool) (bs : List Bool) → b ≡ true → every (b ∷ bs) ≡ every bs
 every-first b bs h = sym (every-skip b bs h)
 
-pub every-later : (b : Bool) (bs : List Bool) → false ≡ every bs → false ≡ every (b ∷ bs)
-unfolding every
-every-later true bs h = h
-every-later false bs h = refl
-
 pub every-one : (b : Bool) (bs : List Bool) → every bs ≡ true → b ≡ every (b ∷ bs)
 unfolding every
 every-one true bs h = sym h

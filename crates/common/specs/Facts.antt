@@ -1,6 +1,6 @@
 -- Small facts on truth values, and cases on them.
 use Prim.Native.Nat.{ℕ, _≤_, _<_}
-use mathlib.Core.Bool.{Bool, true, false, not, _||_}
+use mathlib.Core.Bool.{Bool, true, false, cond, not, _||_}
 use mathlib.Core.Logic.{_⊎_, inl, inr, ⊎-elim}
 use mathlib.Core.Path.{_≡_, refl, sym, _∙_, ap}
 use lib.Dec.{leb, ltb}
@@ -63,3 +63,8 @@ or-cases false b h = inr h
 -- The whole fails with a test that it needs.
 pub fails : (part whole : Bool) → (whole ≡ true → part ≡ true) → part ≡ false → false ≡ whole
 fails part whole f e = sym (not-so whole (λ t. clash part (f t) e))
+
+-- Nothing is chosen either way.
+pub cond-none : (a : Bool) → false ≡ cond a false false
+cond-none true = refl
+cond-none false = refl

@@ -23,14 +23,14 @@ firsts-fit n c t h =
 abbrev both : ℕ → Sender → Receiver → Opened
 both n s r = record { answer = n; sender = s; receiver = r }
 
-pub refused : (n c t answer : ℕ) (s : Sender) (r : Receiver) → answer ≡ openAnswer n c t → (answer ≡ 0 → ⊥) → s ≡ sending.freshOf 32 0 0 0 → r ≡ receiving.freshOf 32 0 0
-    → both answer s r ≡ openedOf 32 n c t
+pub refused : (w n c t answer : ℕ) (s : Sender) (r : Receiver) → answer ≡ openAnswer n c t → (answer ≡ 0 → ⊥) → s ≡ sending.freshOf w 0 0 0 → r ≡ receiving.freshOf w 0 0
+    → both answer s r ≡ openedOf w n c t
 unfolding openedOf
-refused n c t answer s r e h x y =
-    rw (← e, ne-eqb answer 0 h) (ap (λ (s : Sender). both answer s r) x ∙ ap (both answer (sending.freshOf 32 0 0 0)) y)
+refused w n c t answer s r e h x y =
+    rw (← e, ne-eqb answer 0 h) (ap (λ (s : Sender). both answer s r) x ∙ ap (both answer (sending.freshOf w 0 0 0)) y)
 
-pub opens : (n c t answer : ℕ) (s : Sender) (r : Receiver) → answer ≡ openAnswer n c t → answer ≡ 0 → s ≡ sending.freshOf 32 n c t → r ≡ receiving.freshOf 32 n c
-    → both 0 s r ≡ openedOf 32 n c t
+pub opens : (w n c t answer : ℕ) (s : Sender) (r : Receiver) → answer ≡ openAnswer n c t → answer ≡ 0 → s ≡ sending.freshOf w n c t → r ≡ receiving.freshOf w n c
+    → both 0 s r ≡ openedOf w n c t
 unfolding openedOf
-opens n c t answer s r e h x y =
-    rw (← e, eq-eqb answer 0 h) (ap (λ (s : Sender). both 0 s r) x ∙ ap (both 0 (sending.freshOf 32 n c t)) y)
+opens w n c t answer s r e h x y =
+    rw (← e, eq-eqb answer 0 h) (ap (λ (s : Sender). both 0 s r) x ∙ ap (both 0 (sending.freshOf w n c t)) y)

@@ -113,7 +113,7 @@ pub fn receive(s: Sender, r: Receiver, store: &mut [u8], d: &[u8]) -> Received
             answer: 13,
         };
     }
-    match wire::reader::read(d) {
+    match reader::read(d) {
         Reading::Refused(n) => Received {
             sender: s,
             receiver: r,
@@ -134,8 +134,8 @@ pub fn receive(s: Sender, r: Receiver, store: &mut [u8], d: &[u8]) -> Received
                     answer: told.answer,
                 };
             }
-            let arrived = packet::judge(r, values);
-            let number = packet::number(arrived);
+            let arrived = judging::judge(r, values);
+            let number = judging::number(arrived);
             if number != 0 {
                 return Received {
                     sender: s,

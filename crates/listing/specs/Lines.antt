@@ -1,40 +1,16 @@
--- The lines of one datagram: "A refusal is one line `answer=N`; a dummy two, `answer=0` and `type=8`. Absent is `-`. ack= gives number, time,
--- gap, n, scale; delay= maximum, timeout; vec= base, size, time or `-`, separated by commas." Every number is in decimal, and each line ends
--- with a newline.
+-- The lines of one datagram: "A refusal is one line `answer=N`; a dummy two, `answer=0` and `type=8`." Each line ends with a newline.
 use Prim.Native.Nat.{ℕ}
-use mathlib.Core.Bool.{Bool, cond}
 use mathlib.Core.List.{List, [], _∷_, _++_}
 use Rattle.common.specs.Put.{joined}
-use Rattle.text.specs.Ascii.{ascii}
 use Rattle.text.specs.Decimal.{decimalOf}
-use Rattle.text.specs.Lines.{line, comma}
-use Rattle.wire.specs.declared.Ack.{Ack}
-use Rattle.wire.specs.declared.Delay.{Delay}
-use Rattle.wire.specs.declared.Vector.{Vector}
+use Rattle.text.specs.Lines.{line}
 use Rattle.wire.specs.declared.Packet.{Packet}
 use Rattle.wire.specs.declared.Reading.{Reading}
 use Rattle.wire.specs.declared.Reading.the-variants.{Refused, Dummy, Read}
 use Rattle.wire.specs.Flags.{ackIn, dataIn, vectorIn, aoaIn, overheadIn, delayIn}
 use Rattle.wire.specs.Read.{numberOf, readOf}
 use Rattle.common.specs.Answer.{roomAnswer}
-
--- "Absent is `-`."
-abbrev pub orDash : Bool → List ℕ → List ℕ
-orDash present value = cond present value (ascii "-")
-
--- "ack= gives number, time, gap, n, scale"
-abbrev pub ackText : Ack → List ℕ
-ackText a =
-    comma (decimalOf (a .number))
-    (comma (decimalOf (a .time)) (comma (decimalOf (a .gap)) (comma (decimalOf (a .count)) (decimalOf (a .scale)))))
-
--- "delay= maximum, timeout"
-abbrev pub delayText : Delay → List ℕ
-delayText y = comma (decimalOf (y .most)) (decimalOf (y .timeout))
-
--- "vec= base, size, time or `-`"
-abbrev pub vectorText : Vector → List ℕ
-vectorText x = comma (decimalOf (x .base)) (comma (decimalOf (x .size)) (orDash (x .timed) (decimalOf (x .time))))
+use Rattle.listing_fields.specs.Fields.{orDash, ackText, delayText, vectorText}
 
 unfoldable pub packetLines : Packet → List ℕ
 packetLines p =

@@ -6,7 +6,7 @@ use Rattle.text.specs.Decimal.{decimalOf}
 use Rattle.text.specs.Lines.{line}
 use Rattle.wire.specs.declared.Values.{Values}
 use Rattle.wire.specs.Flags.{ackIn, dataIn, vectorIn, aoaIn, overheadIn, delayIn}
-use Rattle.listing.specs.Lines.{orDash, ackText, delayText, vectorText}
+use Rattle.listing_fields.specs.Fields.{orDash, ackText, delayText, vectorText}
 
 -- the twelve lines, four at a time
 unfoldable pub headLines : Values → List ℕ

@@ -1,3 +1,5 @@
 -- Laws that the functions' proofs cite.
+mod Exchanged
+mod Copied
 mod Ways
 mod Front

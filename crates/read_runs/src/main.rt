@@ -53,7 +53,7 @@ fn part(word: &[u8], d: &[u8], at: usize, n: usize) {
         return;
     }
     let mut bytes = [0u8; wire::LONGEST_DATAGRAM];
-    wire::reader::copy_part(&mut bytes, 0, d, at, n);
+    parts::copy_part(&mut bytes, 0, d, at, n);
     showing::bytes(&bytes, n);
 }
 
@@ -84,7 +84,7 @@ fn parts(p: Packet, d: &[u8]) {
 
 // Reads a datagram, and shows what it says.
 fn show(d: &[u8]) {
-    match wire::reader::read(d) {
+    match reader::read(d) {
         Reading::Refused(n) => showing::number(b" answer=", n as u64),
         Reading::Dummy => {
             io::write_all(1, b" answer=0 type=8");

@@ -3,6 +3,7 @@ use Prim.Native.Nat.{ℕ, _+_, _-_, _%_, _≤_, _<_}
 use mathlib.Core.Bool.{Bool, true, false, cond, not, _&&_, _||_}
 use mathlib.Core.List.{List, [], _∷_, map}
 use mathlib.Core.Path.{_≡_, refl, sym, _∙_, ap}
+use native.Mathlib.Nat.{mod-lt}
 use native.Mathlib.Omega.{arith}
 use lib.ListN.{length, getD, length-map}
 use lib.Dec.{eqb, leb, ltb}
@@ -19,6 +20,10 @@ use Rattle.receiver.specs.Record.{isMarked, isHeld, empty, markAt, holdA
 use Rattle.receiver.specs.Consistent.{boundTests, boundsFit, markFits, zeroTests, holdFits, markOk, holdOk, spareMark, spareHold, consistencyTests, consistentOf}
 use Rattle.receiver.specs.Checking.{heldLow}
 use Rattle.common.specs.EveryLaws.{every-at, every-fails, every-skip, every-none, every-made, every-one, implies-if, implies-else, imply, all-from, all-both}
+
+-- an array's length, told of its elements' machine values, is its elements'
+pub unmapped : (X Y : Type 0) (f : X → Y) (l : List X) (n : ℕ) → length (map f l) ≡ n → length l ≡ n
+unmapped X Y f l n p = sym (length-map l f) ∙ p
 
 -- ONE PLACE
 
@@ -43,18 +48,21 @@ hold-wrong-is h = rw (ltb-not placeSize (h .length)) (go (isHeld h) (leb (h .len
     go false short true false = refl
     go false short false zero = refl
 
-pub held-high : (holds : List Hold) (due room j past : ℕ) → past ≡ pastOf 32 due j → (isHeld (getD holds j empty) && leb room past) ≡ not (heldLow 32 holds due room j)
+pub held-high : (w : ℕ) (holds : List Hold) (due room j past : ℕ) → past ≡ pastOf w due j → (isHeld (getD holds j empty) && leb room past) ≡ not (heldLow w holds due room j)
 unfolding heldLow implies
-held-high holds due room j past e = rw (e, leb-not room (pastOf 32 due j)) (go (isHeld (getD holds j empty)) (ltb (pastOf 32 due j) room))
+held-high w holds due room j past e = rw (e, leb-not room (pastOf w due j)) (go (isHeld (getD holds j empty)) (ltb (pastOf w due j) room))
   where
     go : (held low : Bool) → (held && not low) ≡ not (cond held low true)
     go true low = refl
     go false low = refl
 
 -- Where room is the whole window, no place lies past it.
-pub all-low : (holds : List Hold) (due room : ℕ) → 32 ≤ room → false ≡ not (allBelow (heldLow 32 holds due room) 32)
+pub all-low : (w : ℕ) (holds : List Hold) (due room : ℕ) → w ≤ room → false ≡ not (allBelow (heldLow w holds due room) w)
 unfolding heldLow
-all-low holds due room l = ap not (sym (all-from (heldLow 32 holds due room) 32 λ j u. imply _ _ λ t. lt-ltb (pastOf 32 due j) room (omega arith)))
+all-low w holds due room l =
+    ap not
+    (sym (all-from (heldLow w holds due room) w λ j u. imply _ _ λ t.
+    let m : pastOf w due j < w = mod-lt (j + (w - due % w)) (omega arith) in lt-ltb (pastOf w due j) room (omega arith)))
 
 -- THE PLACES, in their own order
 
@@ -94,17 +102,17 @@ holds-placed w r =
 -- THE WHOLE RECORD
 
 -- where end lies above base, the number before it is marked
-abbrev endStands : Receiver → Bool
-endStands r = implies (ltb (r .base .0) (r .end .0)) (isMarked (markAt 32 r (r .end .0 - 1)))
+abbrev endStands : ℕ → Receiver → Bool
+endStands w r = implies (ltb (r .base .0) (r .end .0)) (isMarked (markAt w r (r .end .0 - 1)))
 
 -- no place lies past the window
-spare-marks : (r : Receiver) → allBelow (spareMark 32 r) 32 ≡ true
+spare-marks : (w : ℕ) (r : Receiver) → allBelow (spareMark w r) w ≡ true
 unfolding spareMark
-spare-marks r = all-from (spareMark 32 r) 32 (λ i l. sym (implies-else _ _ (lt-leb 32 i l)))
+spare-marks w r = all-from (spareMark w r) w (λ i l. sym (implies-else _ _ (lt-leb w i l)))
 
-spare-holds : (r : Receiver) → allBelow (spareHold 32 r) 32 ≡ true
+spare-holds : (w : ℕ) (r : Receiver) → allBelow (spareHold w r) w ≡ true
 unfolding spareHold
-spare-holds r = all-from (spareHold 32 r) 32 (λ i l. sym (implies-else _ _ (lt-leb 32 i l)))
+spare-holds w r = all-from (spareHold w r) w (λ i l. sym (implies-else _ _ (lt-leb w i l)))
 
 pub record Bounds (r : Receiver) : Type 0 where
   pub baseFits : r .base .0 ≤ pastHighest
@@ -123,30 +131,31 @@ module _ (r : Receiver) where
       let t : every boundsOf ≡ true = sym e ∙ h in
       record { baseFits = leb-true _ _ (every-at boundsOf t 3); dueFits = leb-true _ _ (every-at boundsOf t 7) }
 
-  pub bounds-fail : (b : Bool) → b ≡ inBounds → b ≡ false → false ≡ consistentOf 32 32 r
+module _ (w : ℕ) (r : Receiver) where
+  pub bounds-fail : (b : Bool) → b ≡ inBounds r → b ≡ false → false ≡ consistentOf w w r
   unfolding consistentOf
-  bounds-fail b e h = every-fails (consistencyTests 32 32 r) 2 (sym e ∙ h)
+  bounds-fail b e h = every-fails (consistencyTests w w r) 2 (sym e ∙ h)
 
-  pub base-fails : (at : ℕ) → at ≡ r .base .0 % 32 → getD (r .marks) at 0 ≡ 1 → false ≡ consistentOf 32 32 r
+  pub base-fails : (at : ℕ) → at ≡ r .base .0 % w → getD (r .marks) at 0 ≡ 1 → false ≡ consistentOf w w r
   unfolding consistentOf
   base-fails at a e =
-      every-fails (consistencyTests 32 32 r) 3 (ap not (eq-eqb (markAt 32 r (r .base .0)) 1 (rw a at e)))
+      every-fails (consistencyTests w w r) 3 (ap not (eq-eqb (markAt w r (r .base .0)) 1 (rw a at e)))
 
-  pub end-fails : r .base .0 + 32 < r .end .0 → false ≡ consistentOf 32 32 r
+  pub end-fails : r .base .0 + w < r .end .0 → false ≡ consistentOf w w r
   unfolding consistentOf
-  end-fails h = every-fails (consistencyTests 32 32 r) 4 (lt-leb (r .end .0) (r .base .0 + 32) h)
+  end-fails h = every-fails (consistencyTests w w r) 4 (lt-leb (r .end .0) (r .base .0 + w) h)
 
   -- the flag that the loops raise, and what lies above the full range
   abbrev placed : List Bool
-  placed = allBelow (markPlaced 32 r) 32 ∷ allBelow (keptPlaced r) 32 ∷ []
+  placed = allBelow (markPlaced w r) w ∷ allBelow (keptPlaced r) w ∷ []
 
   abbrev low : Bool
-  low = allBelow (lowPlaced 32 r) 32
+  low = allBelow (lowPlaced w r) w
 
   abbrev heldTests : List Bool
-  heldTests = allBelow (keptPlaced r) 32 ∷ low ∷ []
+  heldTests = allBelow (keptPlaced r) w ∷ low ∷ []
 
-  pub places-fail : (flag : Bool) → flag ≡ not (every placed) → flag ≡ true → false ≡ consistentOf 32 32 r
+  pub places-fail : (flag : Bool) → flag ≡ not (every placed) → flag ≡ true → false ≡ consistentOf w w r
   unfolding consistentOf
   places-fail flag e t =
       sym
@@ -154,35 +163,31 @@ module _ (r : Receiver) where
       clash flag t
       (e
       ∙ ap not
-      (every-made _ _ (sym (marks-placed 32 r) ∙ every-at (consistencyTests 32 32 r) h 6)
-      (every-made _ _ (every-at heldTests (sym (holds-placed 32 r) ∙ every-at (consistencyTests 32 32 r) h 7) 0) every-none))))
+      (every-made _ _ (sym (marks-placed w r) ∙ every-at (consistencyTests w w r) h 6)
+      (every-made _ _ (every-at heldTests (sym (holds-placed w r) ∙ every-at (consistencyTests w w r) h 7) 0) every-none))))
 
-  pub beyond-fails : (high : Bool) → high ≡ not low → high ≡ true → false ≡ consistentOf 32 32 r
+  pub beyond-fails : (high : Bool) → high ≡ not low → high ≡ true → false ≡ consistentOf w w r
   unfolding consistentOf
   beyond-fails high e t =
-      sym (not-so _ λ h. clash high t (e ∙ ap not (every-at heldTests (sym (holds-placed 32 r) ∙ every-at (consistencyTests 32 32 r) h 7) 1)))
+      sym (not-so _ λ h. clash high t (e ∙ ap not (every-at heldTests (sym (holds-placed w r) ∙ every-at (consistencyTests w w r) h 7) 1)))
 
   -- all but the number before end
-  module _ (marksSized : length (r .marks) ≡ 32) (holdsSized : length (r .holds) ≡ 32) (b : Bool) (bounds : b ≡ inBounds) (t : b ≡ true)
-      (at : ℕ) (place : at ≡ r .base .0 % 32) (base : getD (r .marks) at 0 ≡ 1 → ⊥) (near : r .end .0 ≤ r .base .0 + 32)
+  module _ (marksSized : length (r .marks) ≡ w) (holdsSized : length (r .holds) ≡ w) (b : Bool) (bounds : b ≡ inBounds r) (t : b ≡ true)
+      (at : ℕ) (place : at ≡ r .base .0 % w) (base : getD (r .marks) at 0 ≡ 1 → ⊥) (near : r .end .0 ≤ r .base .0 + w)
       (flag : Bool) (places : flag ≡ not (every placed)) (lowered : flag ≡ false) (high : Bool) (above : high ≡ not low) (none : high ≡ false) where
-    decided : endStands r ≡ consistentOf 32 32 r
+    decided : endStands w r ≡ consistentOf w w r
     unfolding consistentOf
     decided =
         let each : every placed ≡ true = not-false _ (sym places ∙ lowered) in
-        every-one (endStands r) _ (every-made _ _ (marks-placed 32 r ∙ every-at placed each 0) (every-made _ _ (holds-placed 32 r ∙ every-made _ _ (every-at placed each 1) (every-made _ _ (not-false _ (sym above ∙ none)) every-none)) (every-made _ _ (spare-marks r) (every-made _ _ (spare-holds r) every-none))))
-        ∙ every-skip _ _ (le-leb (r .end .0) (r .base .0 + 32) near)
-        ∙ every-skip _ _ (ap not (ne-eqb (markAt 32 r (r .base .0)) 1 (rw place at base)))
+        every-one (endStands w r) _ (every-made _ _ (marks-placed w r ∙ every-at placed each 0) (every-made _ _ (holds-placed w r ∙ every-made _ _ (every-at placed each 1) (every-made _ _ (not-false _ (sym above ∙ none)) every-none)) (every-made _ _ (spare-marks w r) (every-made _ _ (spare-holds w r) every-none))))
+        ∙ every-skip _ _ (le-leb (r .end .0) (r .base .0 + w) near)
+        ∙ every-skip _ _ (ap not (ne-eqb (markAt w r (r .base .0)) 1 (rw place at base)))
         ∙ every-skip _ _ (sym bounds ∙ t)
-        ∙ every-skip _ _ (eq-eqb (length (r .holds)) 32 holdsSized)
-        ∙ every-skip _ _ (eq-eqb (length (r .marks)) 32 marksSized)
+        ∙ every-skip _ _ (eq-eqb (length (r .holds)) w holdsSized)
+        ∙ every-skip _ _ (eq-eqb (length (r .marks)) w marksSized)
 
-    pub end-decides : (last : ℕ) → r .base .0 < r .end .0 → last ≡ (r .end .0 - 1) % 32 → eqb (getD (r .marks) last 0) 1 ≡ consistentOf 32 32 r
+    pub end-decides : (last : ℕ) → r .base .0 < r .end .0 → last ≡ (r .end .0 - 1) % w → eqb (getD (r .marks) last 0) 1 ≡ consistentOf w w r
     end-decides last l e = rw e (implies-if _ _ (lt-ltb (r .base .0) (r .end .0) l)) ∙ decided
 
-    pub end-low : r .end .0 ≤ r .base .0 → true ≡ consistentOf 32 32 r
+    pub end-low : r .end .0 ≤ r .base .0 → true ≡ consistentOf w w r
     end-low l = implies-else _ _ (le-ltb (r .base .0) (r .end .0) l) ∙ decided
-
--- an array's length, told of its elements' machine values, is its elements'
-pub unmapped : (X Y : Type 0) (f : X → Y) (l : List X) (n : ℕ) → length (map f l) ≡ n → length l ≡ n
-unmapped X Y f l n p = sym (length-map l f) ∙ p

@@ -8,7 +8,6 @@ use wire::Packet;
 use wire::Reading;
 use wire::Values;
 use wire::Vector;
-use wire::reader;
 
 // What reading a datagram answers, with no enum in it.
 #[repr(C)]

@@ -29,16 +29,23 @@ sendingOf s store out = record { sender = s; store = store; out = out }
 abbrev pub halfOf : Sending → sending.State
 halfOf a = record { sender = a .sender; store = a .store }
 
-abbrev pub sendStep : ℕ → Sending → List ℕ → Sending
-sendStep tick a block =
+abbrev pub sendStepOf : ℕ → ℕ → ℕ → Sending → List ℕ → Sending
+sendStepOf w cap tick a block =
     record {
-      sender = newOf 32 32 (halfOf a) tick block (length (a .out)) .sender;
-      store = newOf 32 32 (halfOf a) tick block (length (a .out)) .store;
-      out = leftOf (newAnswer 32 32 (halfOf a) block (length (a .out))) (newDatagram (halfOf a) block) (a .out);
+      sender = newOf w cap (halfOf a) tick block (length (a .out)) .sender;
+      store = newOf w cap (halfOf a) tick block (length (a .out)) .store;
+      out = leftOf (newAnswer w cap (halfOf a) block (length (a .out))) (newDatagram (halfOf a) block) (a .out);
     }
 
+abbrev pub sendNumberOf : ℕ → ℕ → Sending → List ℕ → ℕ
+sendNumberOf w cap a block = writtenNumber (writtenOf (newAnswer w cap (halfOf a) block (length (a .out))) (newDatagram (halfOf a) block))
+
+-- over a window of 32
+abbrev pub sendStep : ℕ → Sending → List ℕ → Sending
+sendStep = sendStepOf 32 32
+
 abbrev pub sendNumber : Sending → List ℕ → ℕ
-sendNumber a block = writtenNumber (writtenOf (newAnswer 32 32 (halfOf a) block (length (a .out))) (newDatagram (halfOf a) block))
+sendNumber = sendNumberOf 32 32
 
 -- a receiver and an output; its store does not change
 pub record Taking : Type 0 where
@@ -48,13 +55,20 @@ pub record Taking : Type 0 where
 abbrev pub takingOf : Receiver → List ℕ → Taking
 takingOf r out = record { receiver = r; out = out }
 
-abbrev pub takeStep : List ℕ → Taking → Taking
-takeStep store a =
+abbrev pub takeStepOf : ℕ → ℕ → List ℕ → Taking → Taking
+takeStepOf w cap store a =
     record {
-      receiver = takenOf 32 32 (receiving.state (a .receiver) store) (length (a .out));
-      out = leftOf (takeAnswer 32 32 (receiving.state (a .receiver) store) (length (a .out))) (blockDue 32 (receiving.state (a .receiver) store)) (a .out);
+      receiver = takenOf w cap (receiving.state (a .receiver) store) (length (a .out));
+      out = leftOf (takeAnswer w cap (receiving.state (a .receiver) store) (length (a .out))) (blockDue w (receiving.state (a .receiver) store)) (a .out);
     }
 
+abbrev pub takeNumberOf : ℕ → ℕ → List ℕ → Taking → ℕ
+takeNumberOf w cap store a =
+    writtenNumber (writtenOf (takeAnswer w cap (receiving.state (a .receiver) store) (length (a .out))) (blockDue w (receiving.state (a .receiver) store)))
+
+-- over a window of 32
+abbrev pub takeStep : List ℕ → Taking → Taking
+takeStep = takeStepOf 32 32
+
 abbrev pub takeNumber : List ℕ → Taking → ℕ
-takeNumber store a =
-    writtenNumber (writtenOf (takeAnswer 32 32 (receiving.state (a .receiver) store) (length (a .out))) (blockDue 32 (receiving.state (a .receiver) store)))
+takeNumber = takeNumberOf 32 32

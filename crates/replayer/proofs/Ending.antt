@@ -12,8 +12,9 @@ use Rattle.receiver.specs.declared.Receiver.{Receiver}
 use Rattle.record_lines.specs.Record.{recordText}
 use Rattle.record_lines.specs.AnswerLine.{answerLine}
 use Rattle.trace.specs.Lines.{linesOf}
-use Rattle.replayer.specs.Replay.{refusal, blankStore, replayOf}
-use Rattle.replayer.specs.Steps.{begun, endFor, runOf}
+use Rattle.answering.specs.Answers.{refusal}
+use Rattle.replayer.specs.Replay.{blankStore, replayOf}
+use Rattle.stepping.specs.Steps.{begun, endFor, runOf}
 use Rattle.replayer.specs.LineByLine.{line-by-line}
 
 -- an answer that is no sweep's

@@ -1,5 +1,3 @@
 -- Laws that the functions' proofs cite.
-mod Beginning
-mod OneLine
 mod AllLines
 mod Ending

@@ -24,9 +24,9 @@ use Rattle.endpoint.specs.Open.{openAnswer, openedOf, freshPair}
 use Rattle.endpoint.specs.Calls.{Endpoint, callOf, callsOf}
 use Rattle.endpoint.specs.Fresh.{endpointOf, freshOf, opened-fresh}
 use Rattle.calling.specs.Asks.{callFor, callsFor}
-use Rattle.replayer.specs.Answers.{answerFor, answersFor}
-use Rattle.replayer.specs.Replay.{refusal, recordOf, blankStore, eventsReplayed, headReplayed}
-use Rattle.replayer.specs.Steps.{Machine, machine, dataRead, called, openedBy, opening, stepOf, stepText, endFor, endText, runOf}
+use Rattle.answering.specs.Answers.{refusal, answerFor, answersFor}
+use Rattle.replayer.specs.Replay.{recordOf, blankStore, eventsReplayed, headReplayed}
+use Rattle.stepping.specs.Steps.{Machine, machine, dataRead, called, openedBy, opening, stepOf, stepText, endFor, endText, runOf}
 
 -- where no line is due any more, nothing is written but the end
 next-ended : (c : Cursor) (l : List ℕ) → 7 ≤ c .due → nextOf c l ≡ c

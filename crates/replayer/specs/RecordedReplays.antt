@@ -14,7 +14,7 @@ use Rattle.endpoint.specs.Calls.{Endpoint, callsOf}
 use Rattle.endpoint.specs.Fresh.{freshOf}
 use Rattle.endpoint.specs.Keeps.{opened}
 use Rattle.calling.specs.Asks.{callsFor}
-use Rattle.replayer.specs.Answers.{answersFor}
+use Rattle.answering.specs.Answers.{answersFor}
 use Rattle.replayer.specs.Replay.{recordOf, blankStore, eventsReplayed, headReplayed, replayOf}
 
 -- the endpoint that the recorded one was at its opening

@@ -8,8 +8,6 @@ use lib.ListN.{length, replicate}
 use lib.Dec.{eqb, ltb}
 use Rattle.common.specs.Put.{joined}
 use Rattle.window.specs.Store.{storeSize}
-use Rattle.text.specs.Decimal.{decimalOf}
-use Rattle.text.specs.Lines.{line}
 use Rattle.trace.specs.Lines.{linesOf}
 use Rattle.trace.specs.Read.{Head, noHead, head, headOf, Events, eventsOf}
 use Rattle.endpoint.specs.Open.{openAnswer}
@@ -17,11 +15,7 @@ use Rattle.endpoint.specs.Calls.{Endpoint, callsOf}
 use Rattle.endpoint.specs.Fresh.{freshOf}
 use Rattle.record_lines.specs.Record.{recordText}
 use Rattle.calling.specs.Asks.{callsFor}
-use Rattle.replayer.specs.Answers.{answersFor}
-
--- the line of a refusal
-abbrev pub refusal : ℕ → List ℕ
-refusal n = line "answer" (decimalOf n)
+use Rattle.answering.specs.Answers.{refusal, answersFor}
 
 -- the full record of an endpoint
 abbrev pub recordOf : Endpoint → List ℕ

@@ -88,11 +88,11 @@ sizedValues r k =
       channel = 0;
     }
 
-module _ (r : Receiver) (b : List ℕ) (l : length b ≤ 32) where
+module _ (r : Receiver) (b : List ℕ) (l : length b < 128) where
   vector-plain : Plain (sizedValues r (length b)) 0 (length b)
   unfolding outside sixOf
   vector-plain =
-      let s : leb 128 (length b) ≡ false = lt-leb 128 (length b) (omega arith) in
+      let s : leb 128 (length b) ≡ false = lt-leb 128 (length b) l in
       let t : eqb (length b) (length b) ≡ true = eq-eqb (length b) (length b) refl in
       record { others = refl; acks = refl; window = refl; ack = refl; vector = rw (s, t) refl }
 
@@ -109,17 +109,16 @@ module _ (r : Receiver) (b : List ℕ) (l : length b ≤ 32) where
   vector-decides : (room : ℕ) → roomAnswer (datagramOf (sizedValues r (length b)) [] b []) room ≡ writeAnswer (sizedValues r (length b)) [] b [] room
   vector-decides room = room-decides (sizedValues r (length b)) [] b [] room vector-plain packet-short
 
-pub vector-written : (r : Receiver) (coded : List ℕ) (k : ℕ) (out : List ℕ) (x : Written) (left : List ℕ) → Coded r coded k
+pub vector-written : (w : ℕ) (r : Receiver) (coded : List ℕ) (k : ℕ) (out : List ℕ) (x : Written) (left : List ℕ) → Coded w r coded k → k < 128
     → x ≡ writtenOf (writeAnswer (sizedValues r k) [] (take k coded) [] (length out)) (datagramOf (sizedValues r k) [] (take k coded) [])
     → left ≡ leftOf (writeAnswer (sizedValues r k) [] (take k coded) [] (length out)) (datagramOf (sizedValues r k) [] (take k coded) []) out
-    → Writes (datagramOf (vectorValues 32 r) [] (vectorOf (statesOf 32 r)) []) out x left
-vector-written r coded k out x left y e f =
+    → Writes (datagramOf (vectorValues w r) [] (vectorOf (statesOf w r)) []) out x left
+vector-written w r coded k out x left y l e f =
     let b : List ℕ = take k coded in
-    let c : List ℕ = vectorOf (statesOf 32 r) in
+    let c : List ℕ = vectorOf (statesOf w r) in
     let ek = y .size in
     let eb = y .same in
-    let l = y .fits in
-    let q = sym (vector-decides r (vectorOf (statesOf 32 r)) (omega arith) (length out)) in (
+    let q = sym (vector-decides r (vectorOf (statesOf w r)) (omega arith) (length out)) in (
       e
           ∙ ap (λ (n : ℕ). writtenOf (writeAnswer (sizedValues r n) [] b [] (length out)) (datagramOf (sizedValues r n) [] b [])) ek
           ∙ ap (λ (y : List ℕ). writtenOf (writeAnswer (sizedValues r (length c)) [] y [] (length out)) (datagramOf (sizedValues r (length c)) [] y [])) eb
@@ -179,8 +178,8 @@ module _ (w cap : ℕ) (r : Receiver) (stamp gap : ℕ) (out : List ℕ) (b : Bo
         answered (datagramOf (vectorValues w r) [] (vectorOf (statesOf w r)) []) x left (rw t refl) (rw t refl) y
 
 -- base past the first is not 0
-pub past-first : (r : Receiver) → consistentOf 32 32 r ≡ true → (r .base .0 ≡ r .firstdata .0 → ⊥) → 1 ≤ r .base .0
-past-first r h n = let l = consistent-facts 32 32 r h .baseFrom in go (ltb 0 (r .base .0)) refl l
+pub past-first : (w : ℕ) (r : Receiver) → consistentOf w w r ≡ true → (r .base .0 ≡ r .firstdata .0 → ⊥) → 1 ≤ r .base .0
+past-first w r h n = let l = consistent-facts w w r h .baseFrom in go (ltb 0 (r .base .0)) refl l
   where
     go : (t : Bool) → ltb 0 (r .base .0) ≡ t → r .firstdata .0 ≤ r .base .0 → 1 ≤ r .base .0
     go true e l = ltb-true 0 (r .base .0) e

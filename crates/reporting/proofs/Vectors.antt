@@ -48,21 +48,21 @@ unfolding statesOf
 states-are w r ss e = e
 
 -- the first k bytes of these are the record's vector
-pub record Coded (r : Receiver) (coded : List ℕ) (k : ℕ) : Type 0 where
-  pub fits : k ≤ 32
+pub record Coded (w : ℕ) (r : Receiver) (coded : List ℕ) (k : ℕ) : Type 0 where
+  pub fits : k ≤ w
   pub within : k ≤ length coded
-  pub size : k ≡ length (vectorOf (statesOf 32 r))
-  pub same : take k coded ≡ vectorOf (statesOf 32 r)
+  pub size : k ≡ length (vectorOf (statesOf w r))
+  pub same : take k coded ≡ vectorOf (statesOf w r)
 
--- The vector of a consistent record's states, which are at most 32, fits 32 bytes: ss are the states, out the bytes before and coded those after,
+-- The vector of a consistent record's states, which are at most w, fits w bytes: ss are the states, out the bytes before and coded those after,
 -- and x is what writing it answered.
-module _ (r : Receiver) (h : consistentOf 32 32 r ≡ true) (ss : List Bool) (states : ss ≡ statesFrom 32 r (r .base .0) (r .end .0 - r .base .0))
-    (x : Written) (out coded : List ℕ) (room : length out ≡ 32) (answer : x ≡ writtenOf (answerOf ss (length out)) (vectorOf ss))
+module _ (w : ℕ) (r : Receiver) (h : consistentOf w w r ≡ true) (ss : List Bool) (states : ss ≡ statesFrom w r (r .base .0) (r .end .0 - r .base .0))
+    (x : Written) (out coded : List ℕ) (room : w ≤ length out) (answer : x ≡ writtenOf (answerOf ss (length out)) (vectorOf ss))
     (bytes : coded ≡ leftOf (answerOf ss (length out)) (vectorOf ss) out) where
-  few : length ss ≤ 32
-  few = let e = ap length states ∙ states-length 32 r (r .base .0) (r .end .0 - r .base .0) in omega (arith, e, consistent-facts 32 32 r h .endNear)
+  few : length ss ≤ w
+  few = let e = ap length states ∙ states-length w r (r .base .0) (r .end .0 - r .base .0) in omega (arith, e, consistent-facts w w r h .endNear)
 
-  short : length (vectorOf ss) ≤ 32
+  short : length (vectorOf ss) ≤ w
   short = omega (arith, vector-short ss, few)
 
   done : (Wrote (length (vectorOf ss)) ≡ writtenOf (answerOf ss (length out)) (vectorOf ss)) × (putOf out 0 (vectorOf ss) ≡ leftOf (answerOf ss (length out)) (vectorOf ss) out)
@@ -74,7 +74,7 @@ module _ (r : Receiver) (h : consistentOf 32 32 r ≡ true) (ss : List Bool) (st
   pub vector-never : {A : Type 0} (n : ℕ) → x ≡ Refused n → A
   vector-never n e = let q = wrote in absurd (let z : _≡_ {A = ℕ} 0 1 = cc in omega arith)
 
-  pub vector-coded : (k : ℕ) → x ≡ Wrote k → Coded r coded k
+  pub vector-coded : (k : ℕ) → x ≡ Wrote k → Coded w r coded k
   vector-coded k e =
       let q = wrote in
       let n : k ≡ length (vectorOf ss) = cc in
@@ -83,10 +83,10 @@ module _ (r : Receiver) (h : consistentOf 32 32 r ≡ true) (ss : List Bool) (st
       record {
         fits = omega (arith, short);
         within = omega (arith, short, room);
-        size = n ∙ ap (λ (l : List Bool). length (vectorOf l)) (states-are 32 r ss states);
+        size = n ∙ ap (λ (l : List Bool). length (vectorOf l)) (states-are w r ss states);
         same =
             ap (λ (n : ℕ). take n coded) n
             ∙ ap (take (length (vectorOf ss))) (bytes ∙ sym (done .1) ∙ put-front out (vectorOf ss))
             ∙ take-at (vectorOf ss) (drop (length (vectorOf ss)) out) (length (vectorOf ss)) refl
-            ∙ ap vectorOf (states-are 32 r ss states);
+            ∙ ap vectorOf (states-are w r ss states);
       }

@@ -1,4 +1,4 @@
--- Resend: which block waits, and a law for each way out.
+-- Resend: which block waits, and a law for each way out, over any window w.
 use Prim.Native.Nat.{ℕ, suc, _+_, _-_, _*_, _%_, _≤_, _<_}
 use mathlib.Core.Bool.{Bool, true, false, not}
 use mathlib.Core.Option.{Option, none, some}
@@ -25,33 +25,7 @@ use Rattle.sender.specs.Facts.{consistent-facts}
 use Rattle.sender.specs.SendReady.{sound-facts, waiting-found}
 use Rattle.sending.proofs.NewBlock.{refused-is, wrote-is}
 
--- the search, block by block: k blocks are left from c on
-pub waiting-start : (s : Sender) → waitingFrom 32 s (s .channellow .0) (s .channelnext .0 - s .channellow .0) ≡ lowestWaiting 32 s
-unfolding lowestWaiting
-waiting-start s = refl
-
-pub waiting-here : (s : Sender) (c next : ℕ) → c < next → isWaiting (blockAt 32 s c) ≡ true → waitingFrom 32 s c (next - c) ≡ lowestWaiting 32 s → Block (record { 0 = c }) ≡ lowestOf (lowestWaiting 32 s)
-unfolding waitingFrom
-waiting-here s c next l t h =
-    let e : next - c ≡ suc (next - (c + 1)) = omega arith in
-    let k : waitingFrom 32 s c (suc (next - (c + 1))) ≡ some c = rw t refl in
-    ap lowestOf (sym (ap (waitingFrom 32 s c) e ∙ k) ∙ h)
-
-pub waiting-next : (s : Sender) (c next : ℕ) → c < next → isWaiting (blockAt 32 s c) ≡ false → waitingFrom 32 s c (next - c) ≡ lowestWaiting 32 s
-    → waitingFrom 32 s (c + 1) (next - (c + 1)) ≡ lowestWaiting 32 s
-unfolding waitingFrom
-waiting-next s c next l t h =
-    let e : next - c ≡ suc (next - (c + 1)) = omega arith in
-    let k : waitingFrom 32 s c (suc (next - (c + 1))) ≡ waitingFrom 32 s (c + 1) (next - (c + 1)) = rw t refl in
-    sym (ap (waitingFrom 32 s c) e ∙ k) ∙ h
-
-pub waiting-none : (s : Sender) (c next : ℕ) → next ≤ c → waitingFrom 32 s c (next - c) ≡ lowestWaiting 32 s → Nothing ≡ lowestOf (lowestWaiting 32 s)
-unfolding waitingFrom
-waiting-none s c next l h =
-    let e : next - c ≡ 0 = omega arith in
-    ap lowestOf (sym (ap (waitingFrom 32 s c) e) ∙ h)
-
--- the other way about
+-- the number that was found, from what the code hands on
 optionIn : Lowest → Option ℕ
 optionIn Nothing = none
 optionIn (Block c) = some (c .0)
@@ -69,102 +43,130 @@ pub lowest-some : (o : Option ℕ) (c : ℕ) → Block (record { 0 = c }) ≡ lo
 unfolding optionIn
 lowest-some o c h = sym (ap optionIn h ∙ option-is o)
 
--- the block that waits is in range, and so is short
-pub block-short : (s : Sender) (size c : ℕ) → soundOf 32 32 s size ≡ true → lowestWaiting 32 s ≡ some c → blockAt 32 s c .length ≤ longestSent
-unfolding lowestWaiting
-block-short s size c h w =
-    let f = consistent-facts 32 32 s (omega arith) (omega arith) (sound-facts 32 32 s size h .0) in
-    let j = waiting-found 32 s (s .channelnext .0 - s .channellow .0) (s .channellow .0) c w in
-    f .short c (j .least) (omega (arith, j .most, f .bounds .channelnext))
-
--- the part of the store that is lent, and the datagram
+-- the part of the store that is lent is short
 pub part-short : (l : List ℕ) (start n : ℕ) → n ≤ longestSent → length (take (start + n - start) (drop start l)) ≤ longestSent
 part-short l start n h = omega (arith, length-take (start + n - start) (drop start l))
 
-pub datagram-is : (s : State) (c at : ℕ) → at ≡ c % 32 → lowestWaiting 32 (s .sender) ≡ some c
-    → dataBytes (s .sender .low .0) (s .sender .next .0) c
-    (take (at * placeSize + getD (s .sender .blocks) at noBlock .length - at * placeSize) (drop (at * placeSize) (s .store)))
-    ≡ resendDatagram 32 s
-unfolding resendDatagram contents
-datagram-is s c at a h =
-    let e : c % 32 * placeSize + blockAt 32 (s .sender) c .length - c % 32 * placeSize ≡ blockAt 32 (s .sender) c .length = omega arith in
-    rw (a, h, e) refl
+module _ (w : ℕ) where
+  -- the search, block by block: k blocks are left from c on
+  pub waiting-start : (s : Sender) → waitingFrom w s (s .channellow .0) (s .channelnext .0 - s .channellow .0) ≡ lowestWaiting w s
+  unfolding lowestWaiting
+  waiting-start s = refl
 
--- what a resend leaves: the answer, the record and the buffer
-pub record Resent (s : State) (tick : ℕ) (out : List ℕ) (w : Written) (q : Sender) (left : List ℕ) : Type 0 where
-  pub written : w ≡ writtenOf (resendAnswer 32 32 s (length out)) (resendDatagram 32 s)
-  pub sender : q ≡ resendOf 32 32 s tick (length out)
-  pub bytes : left ≡ leftOf (resendAnswer 32 32 s (length out)) (resendDatagram 32 s) out
+  pub waiting-here : (s : Sender) (c next : ℕ) → c < next → isWaiting (blockAt w s c) ≡ true → waitingFrom w s c (next - c) ≡ lowestWaiting w s → Block (record { 0 = c }) ≡ lowestOf (lowestWaiting w s)
+  unfolding waitingFrom
+  waiting-here s c next l t h =
+      let e : next - c ≡ suc (next - (c + 1)) = omega arith in
+      let k : waitingFrom w s c (suc (next - (c + 1))) ≡ some c = rw t refl in
+      ap lowestOf (sym (ap (waitingFrom w s c) e ∙ k) ∙ h)
 
-kept : (s : State) (tick room n : ℕ) → n ≡ resendAnswer 32 32 s room → (n ≡ 0 → ⊥) → s .sender ≡ resendOf 32 32 s tick room
-unfolding resendOf
-kept s tick room n e h = unless _ _ _ _ (ne-eqb (resendAnswer 32 32 s room) 0 (λ z. h (e ∙ z))) refl
+  pub waiting-next : (s : Sender) (c next : ℕ) → c < next → isWaiting (blockAt w s c) ≡ false → waitingFrom w s c (next - c) ≡ lowestWaiting w s
+      → waitingFrom w s (c + 1) (next - (c + 1)) ≡ lowestWaiting w s
+  unfolding waitingFrom
+  waiting-next s c next l t h =
+      let e : next - c ≡ suc (next - (c + 1)) = omega arith in
+      let k : waitingFrom w s c (suc (next - (c + 1))) ≡ waitingFrom w s (c + 1) (next - (c + 1)) = rw t refl in
+      sym (ap (waitingFrom w s c) e ∙ k) ∙ h
 
-refuses : (s : State) (tick : ℕ) (out : List ℕ) (n : ℕ) → n ≡ resendAnswer 32 32 s (length out) → (n ≡ 0 → ⊥) → Resent s tick out (Refused n) (s .sender) out
-refuses s tick out n e h =
-    record { written = written-refused n _ _ e h; sender = kept s tick (length out) n e h; bytes = left-refused n _ _ _ e h }
+  pub waiting-none : (s : Sender) (c next : ℕ) → next ≤ c → waitingFrom w s c (next - c) ≡ lowestWaiting w s → Nothing ≡ lowestOf (lowestWaiting w s)
+  unfolding waitingFrom
+  waiting-none s c next l h =
+      let e : next - c ≡ 0 = omega arith in
+      ap lowestOf (sym (ap (waitingFrom w s c) e) ∙ h)
 
-resend-unsound : (s : State) (tick : ℕ) (out : List ℕ) → soundOf 32 32 (s .sender) (length (s .store)) ≡ false → Resent s tick out (Refused 13) (s .sender) out
-unfolding resendAnswer
-resend-unsound s tick out h = refuses s tick out 13 (first-here _ _ _ (ap not h)) (λ z. omega arith)
+  -- the block that waits is in range, and so is short
+  pub block-short : (s : Sender) (size c : ℕ) → 0 < w → soundOf w w s size ≡ true → lowestWaiting w s ≡ some c → blockAt w s c .length ≤ longestSent
+  unfolding lowestWaiting
+  block-short s size c lw h e =
+      let f = consistent-facts w w s lw (omega arith) (sound-facts w w s size h .0) in
+      let j = waiting-found w s (s .channelnext .0 - s .channellow .0) (s .channellow .0) c e in
+      f .short c (j .least) (omega (arith, j .most, f .bounds .channelnext))
 
-pub resend-unsized : (s : State) (tick : ℕ) (out : List ℕ) → (length (s .store) ≡ storeSize 32 → ⊥) → Resent s tick out (Refused 13) (s .sender) out
-resend-unsized s tick out h = resend-unsound s tick out (sym (size-wrong 32 _ _ h))
+  -- the datagram, with the part of the store that is lent
+  pub datagram-is : (s : State) (c at : ℕ) → at ≡ c % w → lowestWaiting w (s .sender) ≡ some c
+      → dataBytes (s .sender .low .0) (s .sender .next .0) c
+      (take (at * placeSize + getD (s .sender .blocks) at noBlock .length - at * placeSize) (drop (at * placeSize) (s .store)))
+      ≡ resendDatagram w s
+  unfolding resendDatagram contents
+  datagram-is s c at a h =
+      let e : c % w * placeSize + blockAt w (s .sender) c .length - c % w * placeSize ≡ blockAt w (s .sender) c .length = omega arith in
+      rw (a, h, e) refl
 
-pub resend-unfit : (s : State) (tick : ℕ) (out : List ℕ) (r : Bool) → length (s .store) ≡ storeSize 32 → r ≡ consistentOf 32 32 (s .sender) → r ≡ false
-    → Resent s tick out (Refused 13) (s .sender) out
-resend-unfit s tick out r h e t = resend-unsound s tick out (sym (size-right 32 _ r _ h e) ∙ t)
+  -- what a resend leaves: the answer, the record and the buffer
+  pub record Resent (s : State) (tick : ℕ) (out : List ℕ) (x : Written) (q : Sender) (left : List ℕ) : Type 0 where
+    pub written : x ≡ writtenOf (resendAnswer w w s (length out)) (resendDatagram w s)
+    pub sender : q ≡ resendOf w w s tick (length out)
+    pub bytes : left ≡ leftOf (resendAnswer w w s (length out)) (resendDatagram w s) out
 
-pub resend-none : (s : State) (tick : ℕ) (out : List ℕ) → soundOf 32 32 (s .sender) (length (s .store)) ≡ true → Nothing ≡ lowestOf (lowestWaiting 32 (s .sender))
-    → Resent s tick out (Refused 11) (s .sender) out
-unfolding resendAnswer
-resend-none s tick out h e = refuses s tick out 11 (first-here _ _ _ (lowest-none (lowestWaiting 32 (s .sender)) e) ∙ first-skip _ _ _ (ap not h)) (λ z. omega arith)
-
-pub resend-used : (s : State) (tick : ℕ) (out : List ℕ) (c : ℕ) → soundOf 32 32 (s .sender) (length (s .store)) ≡ true → lowestWaiting 32 (s .sender) ≡ some c
-    → highest < s .sender .next .0 → Resent s tick out (Refused 12) (s .sender) out
-unfolding resendAnswer
-resend-used s tick out c h w l = refuses s tick out 12 (first-here _ _ _ (lt-ltb _ _ l) ∙ first-skip _ _ _ (ap isNone w) ∙ first-skip _ _ _ (ap not h)) (λ z. omega arith)
-
-pub resend-full : (s : State) (tick : ℕ) (out : List ℕ) (c : ℕ) → soundOf 32 32 (s .sender) (length (s .store)) ≡ true → lowestWaiting 32 (s .sender) ≡ some c
-    → s .sender .next .0 ≤ highest → s .sender .low .0 + 32 ≤ s .sender .next .0 → Resent s tick out (Refused 9) (s .sender) out
-unfolding resendAnswer
-resend-full s tick out c h w l u =
-    refuses s tick out 9 (first-here _ _ _ (le-leb _ _ u) ∙ first-skip _ _ _ (le-ltb _ _ l) ∙ first-skip _ _ _ (ap isNone w) ∙ first-skip _ _ _ (ap not h)) (λ z. omega arith)
-
--- past these, the room decides
-pub record Ready (s : State) (c : ℕ) : Type 0 where
-  pub sound : soundOf 32 32 (s .sender) (length (s .store)) ≡ true
-  pub waits : lowestWaiting 32 (s .sender) ≡ some c
-  pub fresh : s .sender .next .0 ≤ highest
-  pub free : s .sender .next .0 < s .sender .low .0 + 32
-
-ready-room : (s : State) (c room : ℕ) → Ready s c → roomAnswer (resendDatagram 32 s) room ≡ resendAnswer 32 32 s room
-unfolding resendAnswer roomAnswer
-ready-room s c room o =
-    first-skip _ _ _ (lt-leb _ _ (o .free)) ∙ first-skip _ _ _ (le-ltb _ _ (o .fresh)) ∙ first-skip _ _ _ (ap isNone (o .waits)) ∙ first-skip _ _ _ (ap not (o .sound))
-
-module _ (s : State) (tick : ℕ) (out : List ℕ) (c : ℕ) (o : Ready s c) (d : List ℕ) (is : d ≡ resendDatagram 32 s) where
-  said : (w : Written) → w ≡ writtenOf (roomAnswer d (length out)) d → w ≡ writtenOf (resendAnswer 32 32 s (length out)) (resendDatagram 32 s)
-  said w e =
-      e ∙ ap (λ (x : List ℕ). writtenOf (roomAnswer x (length out)) x) is
-      ∙ ap (λ (m : ℕ). writtenOf m (resendDatagram 32 s)) (ready-room s c (length out) o)
-
-  laid : (left : List ℕ) → left ≡ leftOf (roomAnswer d (length out)) d out → left ≡ leftOf (resendAnswer 32 32 s (length out)) (resendDatagram 32 s) out
-  laid left e =
-      e ∙ ap (λ (x : List ℕ). leftOf (roomAnswer x (length out)) x out) is
-      ∙ ap (λ (m : ℕ). leftOf m (resendDatagram 32 s) out) (ready-room s c (length out) o)
-
-  pub resend-roomless : (left : List ℕ) (w : Written) (n : ℕ) → w ≡ Refused n → w ≡ writtenOf (roomAnswer d (length out)) d
-      → left ≡ leftOf (roomAnswer d (length out)) d out → Resent s tick out (Refused n) (s .sender) left
-  resend-roomless left w n r e g =
-      let x = sym r ∙ said w e in
-      let (i, h) = refused-is n _ _ x in
-      record { written = x; sender = kept s tick (length out) n i h; bytes = laid left g }
-
-  pub resend-sent : (left : List ℕ) (w : Written) (k : ℕ) (q : Sender) → w ≡ Wrote k → w ≡ writtenOf (roomAnswer d (length out)) d
-      → left ≡ leftOf (roomAnswer d (length out)) d out
-      → q ≡ sentOf 32 (s .sender) tick c (blockAt 32 (s .sender) c .length) (s .sender .channelnext .0) → Resent s tick out (Wrote k) q left
+  kept : (s : State) (tick room n : ℕ) → n ≡ resendAnswer w w s room → (n ≡ 0 → ⊥) → s .sender ≡ resendOf w w s tick room
   unfolding resendOf
-  resend-sent left w k q r e g u =
-      let x = sym r ∙ said w e in
-      record { written = x; sender = rw (eq-eqb _ _ (wrote-is k _ _ x), o .waits) u; bytes = laid left g }
+  kept s tick room n e h = unless _ _ _ _ (ne-eqb (resendAnswer w w s room) 0 (λ z. h (e ∙ z))) refl
+
+  refuses : (s : State) (tick : ℕ) (out : List ℕ) (n : ℕ) → n ≡ resendAnswer w w s (length out) → (n ≡ 0 → ⊥) → Resent s tick out (Refused n) (s .sender) out
+  refuses s tick out n e h =
+      record { written = written-refused n _ _ e h; sender = kept s tick (length out) n e h; bytes = left-refused n _ _ _ e h }
+
+  resend-unsound : (s : State) (tick : ℕ) (out : List ℕ) → soundOf w w (s .sender) (length (s .store)) ≡ false → Resent s tick out (Refused 13) (s .sender) out
+  unfolding resendAnswer
+  resend-unsound s tick out h = refuses s tick out 13 (first-here _ _ _ (ap not h)) (λ z. omega arith)
+
+  pub resend-unsized : (s : State) (tick : ℕ) (out : List ℕ) → (length (s .store) ≡ storeSize w → ⊥) → Resent s tick out (Refused 13) (s .sender) out
+  resend-unsized s tick out h = resend-unsound s tick out (sym (size-wrong w _ _ h))
+
+  pub resend-unfit : (s : State) (tick : ℕ) (out : List ℕ) (r : Bool) → length (s .store) ≡ storeSize w → r ≡ consistentOf w w (s .sender) → r ≡ false
+      → Resent s tick out (Refused 13) (s .sender) out
+  resend-unfit s tick out r h e t = resend-unsound s tick out (sym (size-right w _ r _ h e) ∙ t)
+
+  pub resend-none : (s : State) (tick : ℕ) (out : List ℕ) → soundOf w w (s .sender) (length (s .store)) ≡ true → Nothing ≡ lowestOf (lowestWaiting w (s .sender))
+      → Resent s tick out (Refused 11) (s .sender) out
+  unfolding resendAnswer
+  resend-none s tick out h e = refuses s tick out 11 (first-here _ _ _ (lowest-none (lowestWaiting w (s .sender)) e) ∙ first-skip _ _ _ (ap not h)) (λ z. omega arith)
+
+  pub resend-used : (s : State) (tick : ℕ) (out : List ℕ) (c : ℕ) → soundOf w w (s .sender) (length (s .store)) ≡ true → lowestWaiting w (s .sender) ≡ some c
+      → highest < s .sender .next .0 → Resent s tick out (Refused 12) (s .sender) out
+  unfolding resendAnswer
+  resend-used s tick out c h e l = refuses s tick out 12 (first-here _ _ _ (lt-ltb _ _ l) ∙ first-skip _ _ _ (ap isNone e) ∙ first-skip _ _ _ (ap not h)) (λ z. omega arith)
+
+  pub resend-full : (s : State) (tick : ℕ) (out : List ℕ) (c : ℕ) → soundOf w w (s .sender) (length (s .store)) ≡ true → lowestWaiting w (s .sender) ≡ some c
+      → s .sender .next .0 ≤ highest → s .sender .low .0 + w ≤ s .sender .next .0 → Resent s tick out (Refused 9) (s .sender) out
+  unfolding resendAnswer
+  resend-full s tick out c h e l u =
+      refuses s tick out 9 (first-here _ _ _ (le-leb _ _ u) ∙ first-skip _ _ _ (le-ltb _ _ l) ∙ first-skip _ _ _ (ap isNone e) ∙ first-skip _ _ _ (ap not h)) (λ z. omega arith)
+
+  -- past these, the room decides
+  pub record Ready (s : State) (c : ℕ) : Type 0 where
+    pub sound : soundOf w w (s .sender) (length (s .store)) ≡ true
+    pub waits : lowestWaiting w (s .sender) ≡ some c
+    pub fresh : s .sender .next .0 ≤ highest
+    pub free : s .sender .next .0 < s .sender .low .0 + w
+
+  ready-room : (s : State) (c room : ℕ) → Ready s c → roomAnswer (resendDatagram w s) room ≡ resendAnswer w w s room
+  unfolding resendAnswer roomAnswer
+  ready-room s c room o =
+      first-skip _ _ _ (lt-leb _ _ (o .free)) ∙ first-skip _ _ _ (le-ltb _ _ (o .fresh)) ∙ first-skip _ _ _ (ap isNone (o .waits)) ∙ first-skip _ _ _ (ap not (o .sound))
+
+  module _ (s : State) (tick : ℕ) (out : List ℕ) (c : ℕ) (o : Ready s c) (d : List ℕ) (is : d ≡ resendDatagram w s) where
+    said : (x : Written) → x ≡ writtenOf (roomAnswer d (length out)) d → x ≡ writtenOf (resendAnswer w w s (length out)) (resendDatagram w s)
+    said x e =
+        e ∙ ap (λ (b : List ℕ). writtenOf (roomAnswer b (length out)) b) is
+        ∙ ap (λ (m : ℕ). writtenOf m (resendDatagram w s)) (ready-room s c (length out) o)
+
+    laid : (left : List ℕ) → left ≡ leftOf (roomAnswer d (length out)) d out → left ≡ leftOf (resendAnswer w w s (length out)) (resendDatagram w s) out
+    laid left e =
+        e ∙ ap (λ (b : List ℕ). leftOf (roomAnswer b (length out)) b out) is
+        ∙ ap (λ (m : ℕ). leftOf m (resendDatagram w s) out) (ready-room s c (length out) o)
+
+    pub resend-roomless : (left : List ℕ) (x : Written) (n : ℕ) → x ≡ Refused n → x ≡ writtenOf (roomAnswer d (length out)) d
+        → left ≡ leftOf (roomAnswer d (length out)) d out → Resent s tick out (Refused n) (s .sender) left
+    resend-roomless left x n r e g =
+        let y = sym r ∙ said x e in
+        let (i, h) = refused-is n _ _ y in
+        record { written = y; sender = kept s tick (length out) n i h; bytes = laid left g }
+
+    pub resend-sent : (left : List ℕ) (x : Written) (k : ℕ) (q : Sender) → x ≡ Wrote k → x ≡ writtenOf (roomAnswer d (length out)) d
+        → left ≡ leftOf (roomAnswer d (length out)) d out
+        → q ≡ sentOf w (s .sender) tick c (blockAt w (s .sender) c .length) (s .sender .channelnext .0) → Resent s tick out (Wrote k) q left
+    unfolding resendOf
+    resend-sent left x k q r e g u =
+        let y = sym r ∙ said x e in
+        record { written = y; sender = rw (eq-eqb _ _ (wrote-is k _ _ y), o .waits) u; bytes = laid left g }

@@ -1,29 +1,38 @@
 -- Consistency, judged: a law for each way out of the function that judges it.
 use Prim.Native.Nat.{ℕ, _<_}
-use mathlib.Core.Bool.{Bool, true, false}
-use mathlib.Core.Path.{_≡_, sym, _∙_}
+use mathlib.Core.Bool.{Bool, true, false, not, _&&_}
+use mathlib.Core.Path.{_≡_, refl, sym, _∙_}
 use Rattle.common.specs.Every.{allBelow}
 use Rattle.common.specs.Facts.{clash, not-so, fails}
 use Rattle.sender.specs.declared.Sender.{Sender}
-use Rattle.sender.specs.Record.{isAcknowledged, numberPasses, numberAt, blockAt}
 use Rattle.sender.specs.Consistent.{rangeFits, timeoutFits, numberOk, blockOk, consistentOf}
+use Rattle.sender.specs.Checking.{Ranges}
 use Rattle.common.specs.EveryLaws.{all-fails}
-use Rattle.sender.proofs.Passing.{consistent-passes}
+use Rattle.sender.proofs.Passing.{Passes, consistent-passes, Begun, range-facts}
 
-pub bad-range : (w : ℕ) (s : Sender) (r : Bool) → r ≡ rangeFits w (s .firstdata .0) (s .low .0) (s .next .0) → r ≡ false → false ≡ consistentOf w w s
-bad-range w s r e t = fails _ _ (λ h. consistent-passes w s h .range) (sym e ∙ t)
+-- What is tested before the walk: the two ranges, and the timeout.
+heads : (a b t : Bool) → not ((a && b) && t) ≡ false → (a ≡ true) × (b ≡ true) × (t ≡ true)
+heads true true true e = (refl, refl, refl)
+heads true true false e = clash true refl e
+heads true false t e = clash true refl e
+heads false b t e = clash true refl e
 
-pub bad-channels : (w : ℕ) (s : Sender) (r : Bool) → r ≡ rangeFits w (s .firstchannel .0) (s .channellow .0) (s .channelnext .0) → r ≡ false → false ≡ consistentOf w w s
-bad-channels w s r e t = fails _ _ (λ h. consistent-passes w s h .channels) (sym e ∙ t)
+module _ (w : ℕ) (s : Sender) (a b t : Bool) (ea : a ≡ rangeFits w (s .firstdata .0) (s .low .0) (s .next .0))
+    (eb : b ≡ rangeFits w (s .firstchannel .0) (s .channellow .0) (s .channelnext .0)) (et : t ≡ timeoutFits (s .timeout)) where
+  pub begun : not ((a && b) && t) ≡ false → Begun w s
+  begun e = let (ha, hb, ht) = heads a b t e in record { range = sym ea ∙ ha; channels = sym eb ∙ hb; time = sym et ∙ ht }
 
-pub bad-time : (w : ℕ) (s : Sender) (r : Bool) → r ≡ timeoutFits (s .timeout) → r ≡ false → false ≡ consistentOf w w s
-bad-time w s r e t = fails _ _ (λ h. consistent-passes w s h .time) (sym e ∙ t)
+  pub begun-ranges : not ((a && b) && t) ≡ false → Ranges w (s .low .0) (s .next .0) (s .firstchannel .0) (s .channellow .0) (s .channelnext .0)
+  begun-ranges e =
+      let h = begun e in
+      let r = range-facts _ _ _ _ (h .range) in
+      record { forth = r .forth; nextFits = r .nextFits; room = r .room; channels = h .channels }
 
-pub bad-low : (w : ℕ) (s : Sender) (r : Bool) → r ≡ numberPasses (numberAt w s (s .low .0)) → r ≡ true → false ≡ consistentOf w w s
-bad-low w s r e t = sym (not-so _ (λ h. clash r t (e ∙ consistent-passes w s h .stands)))
-
-pub bad-block-low : (w : ℕ) (s : Sender) → isAcknowledged (blockAt w s (s .channellow .0)) ≡ true → false ≡ consistentOf w w s
-bad-block-low w s t = sym (not-so _ (λ h. clash _ t (consistent-passes w s h .blockStands)))
+  pub bad-begin : not ((a && b) && t) ≡ true → false ≡ consistentOf w w s
+  bad-begin e = sym (not-so _ λ h. clash (not ((a && b) && t)) e (passed (consistent-passes w s h)))
+    where
+      passed : Passes w s → not ((a && b) && t) ≡ false
+      passed h = rw (ea ∙ h .range, eb ∙ h .channels, et ∙ h .time) refl
 
 pub bad-number : (w : ℕ) (s : Sender) (i : ℕ) → i < w → numberOk w s i ≡ false → false ≡ consistentOf w w s
 bad-number w s i l t = fails _ _ (λ h. consistent-passes w s h .numbers) (sym (all-fails (numberOk w s) w i l t))

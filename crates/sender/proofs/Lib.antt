@@ -2,4 +2,5 @@
 mod Passing
 mod Marks
 mod Judged
+mod Walking
 mod Placed

@@ -18,6 +18,7 @@ use Rattle.sender.specs.declared.BlockPlace.{BlockPlace}
 use Rattle.sender.specs.declared.Sender.{Sender}
 use Rattle.sender.specs.Record.{longestSent, isPending, isInFlight, numberAt, blockAt}
 use Rattle.sender.specs.Consistent.{pendingTests, numberFits, blockFits, carries, oneCarrier, numberOk, blockOk}
+use Rattle.sender.specs.Checking.{Marked}
 use Rattle.sender.specs.PlaceTests.{zero-number, number-past, number-pending}
 use Rattle.common.specs.EveryLaws.{every-at, all-fails}
 use Rattle.common.specs.CountLaws.{one, count-none, count-next, count-grows}
@@ -42,11 +43,6 @@ pending-facts p fly n next first channellow channelnext h t = ⊎-elim inside pa
 
     past : next ≤ n → Pending p fly n next channellow channelnext
     past l = clash (isPending p) t (ap (λ (x : NumberPlace). isPending x) (zero-number p (sym (number-past p fly n next first channellow channelnext l) ∙ h)))
-
--- After i numbers, a block's place is marked once for each pending number that carries it.
-pub record Marked (w : ℕ) (s : Sender) (marks : List Bool) (i : ℕ) : Type 0 where
-  pub size : length marks ≡ w
-  pub counts : (c : ℕ) → s .channellow .0 ≤ c → c < s .channellow .0 + w → one (getD marks (c % w) false) ≡ countBelow (carries w s c) i
 
 pub mark-none : (w : ℕ) (s : Sender) → Marked w s (replicate w false) 0
 mark-none w s =

@@ -64,21 +64,11 @@ range-facts w first low next h =
     let r : (i : ℕ) → getD (rangeTests w first low next) i true ≡ true = every-at (rangeTests w first low next) h in
     record { from = leb-true _ _ (r 1); forth = leb-true _ _ (r 2); nextFits = leb-true _ _ (r 3); room = leb-true _ _ (r 4) }
 
--- what is tested before any place but the lows' own
+-- what is tested before any place
 pub record Begun (w : ℕ) (s : Sender) : Type 0 where
-  pub numbersSized : length (s .numbers) ≡ w
-  pub blocksSized : length (s .blocks) ≡ w
   pub range : rangeFits w (s .firstdata .0) (s .low .0) (s .next .0) ≡ true
   pub channels : rangeFits w (s .firstchannel .0) (s .channellow .0) (s .channelnext .0) ≡ true
   pub time : timeoutFits (s .timeout) ≡ true
-  pub stands : numberPasses (numberAt w s (s .low .0)) ≡ false
-  pub blockStands : isAcknowledged (blockAt w s (s .channellow .0)) ≡ false
 
 pub data-range : (w : ℕ) (s : Sender) → Begun w s → Range w (s .firstdata .0) (s .low .0) (s .next .0)
 data-range w s h = range-facts _ _ _ _ (h .range)
-
-pub block-range : (w : ℕ) (s : Sender) → Begun w s → Range w (s .firstchannel .0) (s .channellow .0) (s .channelnext .0)
-block-range w s h = range-facts _ _ _ _ (h .channels)
-
-pub begun-passes : (w : ℕ) (s : Sender) → Begun w s → allBelow (numberOk w s) w ≡ true → allBelow (blockOk w s) w ≡ true → Passes w s
-begun-passes w s h n b = record { range = h .range; channels = h .channels; time = h .time; stands = h .stands; blockStands = h .blockStands; numbers = n; blocks = b }

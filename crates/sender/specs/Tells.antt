@@ -5,6 +5,7 @@ use mathlib.Core.Bool.{Bool, true, false, cond}
 use mathlib.Core.List.{List}
 use mathlib.Core.Path.{_≡_, refl, sym, _∙_, ap, subst}
 use lib.Dec.{eqb}
+use Rattle.common.specs.Facts.{cond-none}
 use Rattle.numbers.specs.Widen.{widenOf}
 use Rattle.wire.specs.declared.Packet.{Packet}
 use Rattle.wire.specs.declared.Reading.{Reading}
@@ -83,10 +84,6 @@ answer-is w cap q d h = rw h refl
 left-is : (w cap : ℕ) (q : Sender) (d : List ℕ) → consistentOf w cap q ≡ true → acknowledgeOf w cap q d ≡ readInto w q d (readOf d)
 unfolding acknowledgeOf
 left-is w cap q d h = rw h refl
-
-cond-none : (a : Bool) → false ≡ cond a false false
-cond-none true = refl
-cond-none false = refl
 
 module _ {w cap : ℕ} {s : Sender} (f : Facts w cap s) {chosen : ℕ → Bool} {q : Sender} (a : Turned w cap acknowledging s chosen q) where
   -- nothing more is chosen

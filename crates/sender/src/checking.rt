@@ -1,9 +1,14 @@
 // Is a record consistent? One pass over the numbers in range, then one over the numbers' places and one over the blocks'.
 ghost use mathlib.Core.Path.{_≡_};
 ghost use mathlib.Core.Bool.{true, false, cond, not};
+ghost use Prim.Native.Nat.{_%_};
 ghost use lib.Dec.{eqb, leb};
+ghost use lib.ListN.{getD};
 ghost use Rattle.common.specs.Every.{implies};
+ghost use Rattle.common.specs.EveryLaws.{raised};
+ghost use Rattle.sender.specs.Record.{isAcknowledged, numberPasses, noNumber, noBlock};
 ghost use Rattle.sender.specs.Consistent.{rangeFits, timeoutFits, zeroNumber, numberFits, blockFits, consistentOf};
+ghost use Rattle.sender.specs.Checking.{numberPlaced, blockPlaced, Ranges, WalkedParts};
 use crate::BlockPlace;
 use crate::NumberPlace;
 use crate::Sender;
@@ -99,65 +104,105 @@ fn block_wrong(b: BlockPlace, single: bool, past: u8, count: u8) -> bool
     (outside & (!vacant | (b.length != 0))) | (!outside & ((LONGEST_SENT < b.length) | unfit))
 }
 
-// Is the record consistent? A mark for each block that a pending number carries; a second mark for one block refuses.
+// Does low stand on a number that it should have passed, or is one of the places from next on not zero? No branch leaves the
+// loop, so that many places are looked at together.
+fn numbers_wrong(numbers: [NumberPlace; 32], low: DataNumber, next: u64) -> bool
+    ensures { λ r. ⌜ r ≡ raised (numberPasses (getD numbers (low .0 % 32) noNumber)) (numberPlaced 32 numbers (low .0) next) 32 ⌝ }
+{
+    let lowat = window::data_place(low);
+    let number = numbers[lowat];
+    let count = window::count(low.0, next);
+    let mut wrong = passes(number.state);
+    let mut j: usize = 0;
+    while j < window::PLACES {
+        let p = numbers[j];
+        wrong = wrong | number_wrong(p, window::past(j, low.0), count);
+        j += 1;
+    }
+    wrong
+}
+
+// Does channel low stand on a block that it should have passed, or does one of the blocks' places not fit? A mark says that
+// exactly one pending number carries the block.
+fn blocks_wrong(blocks: [BlockPlace; 32], marks: [bool; 32], low: ChannelNumber, next: u64) -> bool
+    ensures { λ r. ⌜ r ≡ raised (isAcknowledged (getD blocks (low .0 % 32) noBlock)) (blockPlaced 32 blocks marks (low .0) next) 32 ⌝ }
+{
+    let lowat = window::channel_place(low);
+    let block = blocks[lowat];
+    let count = window::count(low.0, next);
+    let mut wrong = block.state == crate::ACKNOWLEDGED;
+    let mut k: usize = 0;
+    while k < window::PLACES {
+        let b = blocks[k];
+        let single = marks[k];
+        wrong = wrong | block_wrong(b, single, window::past(k, low.0), count);
+        k += 1;
+    }
+    wrong
+}
+
+// What a walk over the numbers in range tells: whether they fit, and a mark for each block that a pending one carries.
+struct Walk {
+    fits: bool,
+    marks: [bool; 32],
+}
+
+// Walks over the numbers from low up to next, and stops after the first that does not fit. A second mark for one block refuses.
+fn walk_numbers(
+    numbers: [NumberPlace; 32],
+    blocks: [BlockPlace; 32],
+    low: u64,
+    next: u64,
+    firstchannel: ChannelNumber,
+    channellow: ChannelNumber,
+    channelnext: ChannelNumber,
+) -> Walk
+    requires { ⌜ Ranges 32 low next (firstchannel .0) (channellow .0) (channelnext .0) ⌝ }
+    ensures { λ r. ⌜ WalkedParts 32 numbers blocks low next (firstchannel .0) (channellow .0) (channelnext .0) (r .fits) (r .marks) ⌝ }
+{
+    let span = next - low;
+    let mut marks = [false; 32];
+    let mut fits = true;
+    let mut i: u64 = 0;
+    while fits & (i < span) {
+        let numberat = window::data_place(DataNumber(low + i));
+        let p = numbers[numberat];
+        let at = window::channel_place(p.channel);
+        let b = blocks[at];
+        let fly = b.state == crate::INFLIGHT;
+        let pending = p.state == crate::PENDING;
+        let marked = marks[at];
+        fits = used_fits(p, fly, firstchannel, channellow, channelnext) & !(pending & marked);
+        marks[at] = marked | pending;
+        i += 1;
+    }
+    Walk { fits, marks }
+}
+
+// Is the record consistent? One walk over the numbers in range, and then all places in their own order.
 pub fn consistent(s: Sender) -> bool
     ensures { λ r. ⌜ r ≡ consistentOf 32 32 s ⌝ }
 {
-    if !range_fits(s.firstdata.0, s.low.0, s.next.0) {
+    let numbersfit = range_fits(s.firstdata.0, s.low.0, s.next.0);
+    let blocksfit = range_fits(s.firstchannel.0, s.channellow.0, s.channelnext.0);
+    if !(numbersfit & blocksfit & timeout_fits(s.timeout)) {
         return false;
     }
-    if !range_fits(s.firstchannel.0, s.channellow.0, s.channelnext.0) {
+    let numbers = s.numbers;
+    let blocks = s.blocks;
+    let w = walk_numbers(
+        numbers,
+        blocks,
+        s.low.0,
+        s.next.0,
+        s.firstchannel,
+        s.channellow,
+        s.channelnext,
+    );
+    if !w.fits {
         return false;
     }
-    if !timeout_fits(s.timeout) {
-        return false;
-    }
-    let lowat = window::data_place(s.low);
-    let number = s.numbers[lowat];
-    if passes(number.state) {
-        return false;
-    }
-    let blockat = window::channel_place(s.channellow);
-    let block = s.blocks[blockat];
-    if block.state == crate::ACKNOWLEDGED {
-        return false;
-    }
-    let span = s.next.0 - s.low.0;
-    let mut marks = [false; 32];
-    let mut i: u64 = 0;
-    while i < span {
-        let numberat = window::data_place(DataNumber(s.low.0 + i));
-        let p = s.numbers[numberat];
-        let at = window::channel_place(p.channel);
-        let b = s.blocks[at];
-        let fly = b.state == crate::INFLIGHT;
-        if !used_fits(p, fly, s.firstchannel, s.channellow, s.channelnext) {
-            return false;
-        }
-        if p.state == crate::PENDING {
-            if marks[at] {
-                return false;
-            }
-            marks[at] = true;
-        }
-        i += 1;
-    }
-    // The places in their own order. No branch leaves these loops, so that many places are looked at together.
-    let count = window::count(s.low.0, s.next.0);
-    let mut wrong = false;
-    let mut j: usize = 0;
-    while j < window::PLACES {
-        let p = s.numbers[j];
-        wrong = wrong | number_wrong(p, window::past(j, s.low.0), count);
-        j += 1;
-    }
-    let blockcount = window::count(s.channellow.0, s.channelnext.0);
-    let mut k: usize = 0;
-    while k < window::PLACES {
-        let b = s.blocks[k];
-        let single = marks[k];
-        wrong = wrong | block_wrong(b, single, window::past(k, s.channellow.0), blockcount);
-        k += 1;
-    }
-    !wrong
+    let marks = w.marks;
+    let numberswrong = numbers_wrong(numbers, s.low, s.next.0);
+    !(numberswrong | blocks_wrong(blocks, marks, s.channellow, s.channelnext.0))
 }

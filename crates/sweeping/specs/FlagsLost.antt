@@ -7,7 +7,11 @@ use lib.ListN.{length, getD}
 use Rattle.sender.specs.declared.Sender.{Sender}
 use Rattle.sender.specs.Sweep.{losesAt}
 
--- the flag at each number's place says whether it is lost, if it is pending
-pub record FlagsLost (s : Sender) (tick : ℕ) (flags : List Bool) (i : ℕ) : Type 0 where
-  pub size : length flags ≡ 32
-  pub holds : (n : ℕ) → s .low .0 + i ≤ n → n < s .low .0 + 32 → getD flags (n % 32) false ≡ losesAt 32 s tick n
+-- the flag at each number's place, of w, says whether it is lost, if it is pending
+pub record FlagsLostIn (w : ℕ) (s : Sender) (tick : ℕ) (flags : List Bool) (i : ℕ) : Type 0 where
+  pub size : length flags ≡ w
+  pub holds : (n : ℕ) → s .low .0 + i ≤ n → n < s .low .0 + w → getD flags (n % w) false ≡ losesAt w s tick n
+
+-- the same at the window of 32
+abbrev pub FlagsLost : Sender → ℕ → List Bool → ℕ → Type 0
+FlagsLost s tick flags i = FlagsLostIn 32 s tick flags i

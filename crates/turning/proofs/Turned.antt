@@ -6,7 +6,7 @@ use mathlib.Core.Logic.{⊎-elim}
 use mathlib.Core.Path.{_≡_, refl, sym, _∙_, ap}
 use native.Mathlib.Omega.{arith}
 use native.Mathlib.Numerals.{add-one}
-use Rattle.common.specs.Facts.{bool}
+use Rattle.common.specs.Facts.{bool, cond-none}
 use borrow.Author.Tests.{le-ltb}
 use lib.ListN.{getD, set}
 use lib.Seq.{getD-set-other}
@@ -168,12 +168,8 @@ module _ (w : ℕ) where
   up-to-same : (t : Turn) (f : ℕ → Bool) (s : Sender) (i : ℕ) → ((n : ℕ) → f n ≡ false) → s ≡ turnUpTo w t f s i
   up-to-same t f s zero h = turn-none t f s
   up-to-same t f s (suc i) h =
-      turn-skip t f s s i (up-to-same t f s i h) (ap (λ (b : Bool). cond (isPending (numberAt w s (s .low .0 + i))) b false) (h (s .low .0 + i)) ∙ go (isPending (numberAt w s (s .low .0 + i))))
+      turn-skip t f s s i (up-to-same t f s i h) (ap (λ (b : Bool). cond (isPending (numberAt w s (s .low .0 + i))) b false) (h (s .low .0 + i)) ∙ sym (cond-none (isPending (numberAt w s (s .low .0 + i)))))
       ∙ ap (turnUpTo w t f s) (add-one i)
-    where
-      go : (b : Bool) → cond b false false ≡ false
-      go true = refl
-      go false = refl
 
   pub turned-nothing : (t : Turn) (f : ℕ → Bool) (s : Sender) → ((n : ℕ) → f n ≡ false) → numberPasses (numberAt w s (s .low .0)) ≡ false
       → isAcknowledged (blockAt w s (s .channellow .0)) ≡ false → s ≡ turnedOf w t f s

@@ -1,5 +1,2 @@
 -- Laws that the functions' proofs cite.
 mod Masks
-mod Places
-mod Refusals
-mod Parts

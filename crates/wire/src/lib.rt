@@ -1,8 +1,7 @@
 // One RDP-UDP2 datagram: its framing (prefix, short length, the exchange of two bytes), its header and its payloads.
-// `reader::read` takes a datagram apart; the crate `writer` puts one together. This crate knows no record and no window; numbers
-// are the 16-bit fields that stand on the wire.
+// The crate `reader` takes a datagram apart, and `writer` puts one together. No record and no window is known here; numbers are the
+// 16-bit fields that stand on the wire.
 pub mod bits;
-pub mod reader;
 
 // The longest and the shortest datagram.
 pub const LONGEST_DATAGRAM: usize = 1232;

@@ -12,10 +12,10 @@ use Rattle.common.specs.Laid.{Laid}
 use Rattle.wire.specs.declared.Values.{Values}
 use Rattle.wire.specs.Frame.{swapped, framed, prefixFor, padded}
 use Rattle.wire.specs.Write.{packetBytes, datagramOf}
-use Rattle.writer.specs.Steps.{frontBytes, backBytes}
+use Rattle.laying.specs.Halves.{frontBytes, backBytes}
 use Rattle.wire.specs.Round.Framing.{swapped-length}
-use Rattle.writer.proofs.Widths.{packet-parts}
-use Rattle.writer.proofs.Sizes.{packet-length}
+use Rattle.laying.proofs.Widths.{packet-parts}
+use Rattle.fitting.proofs.Sizes.{packet-length}
 
 pub take-zeros : (n m : ℕ) → n ≤ m → take n (replicate {A = ℕ} m 0) ≡ replicate n 0
 take-zeros zero m h = refl

@@ -1,34 +1,13 @@
--- The steps of a write, for the contracts of the functions that take them.
+-- Judging a write, for the contract of the function that does.
 use Prim.Native.Nat.{ℕ}
 use mathlib.Core.Bool.{cond}
-use mathlib.Core.List.{List, [], _∷_, _++_}
+use mathlib.Core.List.{List}
 use lib.ListN.{length}
 use lib.Dec.{eqb}
-use Rattle.common.specs.Put.{joined}
 use Rattle.wire.specs.declared.Values.{Values}
-use Rattle.wire.specs.Flags.{ackIn, dataIn, vectorIn, aoaIn, overheadIn, delayIn}
-use Rattle.wire.specs.Write.{wordBytes, given, ackBytes, delayBytes, vectorBytes, headerBytes, packetBytes, writeAnswer}
+use Rattle.wire.specs.Write.{packetBytes, writeAnswer}
 use Rattle.writer.specs.declared.Judged.{Judged}
 use Rattle.writer.specs.declared.Judged.the-variants.{Refused, Fits}
-
--- a packet in two parts: the header with the payloads up to AckOfAcks, and the payloads from DataHeader on
-unfoldable pub frontBytes : Values → List ℕ → List ℕ
-frontBytes v additions =
-    joined
-    (headerBytes v
-    ∷ given (ackIn (v .flags)) (ackBytes (v .ack) additions)
-    ∷ given (overheadIn (v .flags)) (v .overhead ∷ [])
-    ∷ given (delayIn (v .flags)) (delayBytes (v .delay))
-    ∷ given (aoaIn (v .flags)) (wordBytes (v .aoa))
-    ∷ [])
-
-unfoldable pub backBytes : Values → List ℕ → List ℕ → List ℕ
-backBytes v vector body =
-    joined
-    (given (dataIn (v .flags)) (wordBytes (v .number))
-    ∷ given (vectorIn (v .flags)) (vectorBytes (v .vector) vector)
-    ∷ given (dataIn (v .flags)) (wordBytes (v .channel) ++ body)
-    ∷ [])
 
 -- judging a write: the refusal, or the packet's length
 unfoldable pub judgedOf : Values → List ℕ → List ℕ → List ℕ → ℕ → Judged

@@ -18,7 +18,7 @@ consistent-requires : tie.Need-consistent-requires
 consistent-requires c κs = search needs
 
 returns : tie.Need-returns
-returns c = ack-unfit _ _ (sym (c .before .consistent .ensures) ∙ not-true _ (c .if1 .taken))
+returns c = ack-unfit 32 _ _ (sym (c .before .consistent .ensures) ∙ not-true _ (c .if1 .taken))
 
 read-requires : tie.Need-read-requires
 read-requires c κs = search needs
@@ -38,22 +38,22 @@ judge-requires c κs = (fit (c .before .before .before .before), sym (c .before 
 returns-2 : tie.Need-returns-2
 returns-2 c =
     let r = c .before .before .before .before .before .before in
-    ack-kept _ _ _ _ (fit (r .before)) (sym (c .before .before .before .before .p .given .1) ∙ r .read .ensures)
+    ack-kept 32 _ _ _ _ (fit (r .before)) (sym (c .before .before .before .before .p .given .1) ∙ r .read .ensures)
     (c .before .before .judge .ensures .0) (c .before .before .judge .ensures .1) (c .if2 .taken)
 
 turn-requires : tie.Need-turn-requires
 turn-requires c κs = turnable 32 32 _ (omega arith) (omega arith) (fit (c .before .before .before .before .before .before .before .before))
 
 returns-3 : tie.Need-returns-3
-returns-3 c = ack-refused _ _ _ (fit (c .before .before .before .before)) (sym (c .before .n .given .1) ∙ c .before .before .before .read .ensures)
+returns-3 c = ack-refused 32 _ _ _ (fit (c .before .before .before .before)) (sym (c .before .n .given .1) ∙ c .before .before .before .read .ensures)
 
 returns-4 : tie.Need-returns-4
-returns-4 c = ack-dummy _ _ (fit (c .before .before .before)) (sym (c .enum-told .given .1) ∙ c .before .before .read .ensures)
+returns-4 c = ack-dummy 32 _ _ (fit (c .before .before .before)) (sym (c .enum-told .given .1) ∙ c .before .before .read .ensures)
 
 returns-5 : tie.Need-returns-5
 returns-5 c =
     let r = c .before .before .before .before .before .before .before .before in
-    ack-turned _ _ _ _ _ (fit (r .before)) (sym (c .before .before .before .before .before .before .p .given .1) ∙ r .read .ensures)
+    ack-turned 32 _ _ _ _ _ (fit (r .before)) (sym (c .before .before .before .before .before .before .p .given .1) ∙ r .read .ensures)
     (c .before .before .before .before .judge .ensures .0) (c .before .before .before .before .judge .ensures .1) (c .before .before .if2 .left) (c .turn .ensures)
 
 pub acknowledge-spec : {M : Type 1} → statement M

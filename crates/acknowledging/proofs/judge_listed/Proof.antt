@@ -13,22 +13,22 @@ enum-known-n : tie.Need-enum-known-n
 enum-known-n c = search needs
 
 returns : tie.Need-returns
-returns c = listed-early _ _ _ _ _ _ (sym (c .before .before .before .n .given .1) ∙ c .before .before .before .before .before .widen .ensures) (c .if1 .taken)
+returns c = listed-early 32 _ _ _ _ _ _ (sym (c .before .before .before .n .given .1) ∙ c .before .before .before .before .before .widen .ensures) (c .if1 .taken)
 
 walk-requires : tie.Need-walk-requires
 walk-requires c κs = let l = widened-least _ _ _ (sym (c .before .before .before .n .given .1) ∙ c .before .before .before .before .before .widen .ensures) in (omega arith, omega arith, omega arith, omega arith)
 
 returns-2 : tie.Need-returns-2
-returns-2 c = listed-never _ _ _ _ _ _ _ (sym (c .before .before .before .before .before .n .given .1) ∙ c .before .before .before .before .before .before .before .widen .ensures) (c .before .before .if1 .left) (c .before .walk .ensures) (c .if2 .taken)
+returns-2 c = listed-never 32 _ _ _ _ _ _ _ (sym (c .before .before .before .before .before .n .given .1) ∙ c .before .before .before .before .before .before .before .widen .ensures) (c .before .before .if1 .left) (c .before .walk .ensures) (c .if2 .taken)
 
 enum-told : tie.Need-enum-told
 enum-told c = search needs
 
 returns-3 : tie.Need-returns-3
-returns-3 c = listed-named _ _ _ _ _ _ _ (sym (c .before .before .before .before .before .before .n .given .1) ∙ c .before .before .before .before .before .before .before .before .widen .ensures) (c .before .before .before .if1 .left) (c .before .before .walk .ensures) (c .before .if2 .left)
+returns-3 c = listed-named 32 _ _ _ _ _ _ _ (sym (c .before .before .before .before .before .before .n .given .1) ∙ c .before .before .before .before .before .before .before .before .widen .ensures) (c .before .before .before .if1 .left) (c .before .before .walk .ensures) (c .before .if2 .left)
 
 returns-4 : tie.Need-returns-4
-returns-4 c = listed-below _ _ _ _ _ _ (sym (c .enum-told .given .1) ∙ c .before .before .widen .ensures)
+returns-4 c = listed-below 32 _ _ _ _ _ _ (sym (c .enum-told .given .1) ∙ c .before .before .widen .ensures)
 
 pub judge-listed-spec : {M : Type 1} → statement M
 judge-listed-spec =

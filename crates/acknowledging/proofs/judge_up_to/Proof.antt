@@ -12,10 +12,10 @@ enum-known-n : tie.Need-enum-known-n
 enum-known-n c = search needs
 
 returns : tie.Need-returns
-returns c = up-to-early _ _ _ _ (sym (c .before .before .before .n .given .1) ∙ c .before .before .before .before .before .widen .ensures) (c .if1 .taken)
+returns c = up-to-early 32 _ _ _ _ (sym (c .before .before .before .n .given .1) ∙ c .before .before .before .before .before .widen .ensures) (c .if1 .taken)
 
 returns-2 : tie.Need-returns-2
-returns-2 c = up-to-late _ _ _ _ (sym (c .before .before .before .before .before .before .n .given .1) ∙ c .before .before .before .before .before .before .before .before .widen .ensures) (c .before .before .before .if1 .left) (c .if2 .taken)
+returns-2 c = up-to-late 32 _ _ _ _ (sym (c .before .before .before .before .before .before .n .given .1) ∙ c .before .before .before .before .before .before .before .before .widen .ensures) (c .before .before .before .if1 .left) (c .if2 .taken)
 
 add-t9 : tie.Need-add-t9
 add-t9 c = search needs
@@ -24,10 +24,10 @@ enum-told : tie.Need-enum-told
 enum-told c = search needs
 
 returns-3 : tie.Need-returns-3
-returns-3 c = up-to-named _ _ _ _ (sym (c .before .before .before .before .before .before .before .n .given .1) ∙ c .before .before .before .before .before .before .before .before .before .widen .ensures) (c .before .before .before .before .if1 .left) (c .before .if2 .left)
+returns-3 c = up-to-named 32 _ _ _ _ (sym (c .before .before .before .before .before .before .before .n .given .1) ∙ c .before .before .before .before .before .before .before .before .before .widen .ensures) (c .before .before .before .before .if1 .left) (c .before .if2 .left)
 
 returns-4 : tie.Need-returns-4
-returns-4 c = up-to-below _ _ _ _ (sym (c .enum-told .given .1) ∙ c .before .before .widen .ensures)
+returns-4 c = up-to-below 32 _ _ _ _ (sym (c .enum-told .given .1) ∙ c .before .before .widen .ensures)
 
 pub judge-up-to-spec : {M : Type 1} → statement M
 judge-up-to-spec =

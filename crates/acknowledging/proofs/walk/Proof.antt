@@ -38,7 +38,7 @@ span-requires : tie.Need-span-requires Inv-loop μ-loop Inv-bytes μ-bytes
 span-requires c κs = search needs
 
 loop-holds : tie.Need-loop-holds Inv-loop μ-loop Inv-bytes μ-bytes
-loop-holds c = (search needs, omega arith, c .before .before .before .bytes .inv .2, byte-starts (c .before .before .before .before .before .args .d .now) (c .before .before .before .before .before .args .at) (c .before .before .before .before .before .args .size) (c .before .before .before .bytes .j) _ _ _ _ _ _ (omega arith) (omega arith) (c .before .byte-at .ensures) (c .before .before .before .bytes .inv .3))
+loop-holds c = (search needs, omega arith, c .before .before .before .bytes .inv .2, byte-starts 32 (c .before .before .before .before .before .args .d .now) (c .before .before .before .before .before .args .at) (c .before .before .before .before .before .args .size) (c .before .before .before .bytes .j) _ _ _ _ _ _ (omega arith) (omega arith) (c .before .byte-at .ensures) (c .before .before .before .bytes .inv .3))
 
 state-requires : tie.Need-state-requires Inv-loop μ-loop Inv-bytes μ-bytes
 state-requires c κs = search needs
@@ -68,7 +68,7 @@ loop-less : tie.Need-loop-less Inv-loop μ-loop Inv-bytes μ-bytes
 loop-less c = search needs
 
 loop-again : tie.Need-loop-again Inv-loop μ-loop Inv-bytes μ-bytes
-loop-again c = (search needs, omega arith, c .before .before .before .before .before .before .loop .inv .2, state-walked _ _ (c .before .before .before .before .before .before .loop .i) _ _ _ _ _ _ _ _ _ (c .before .data-place .ensures .0) (omega (arith, c .before .before .before .before .before .before .before .span .ensures)) (c .before .before .before .before .state .ensures) (c .before .before .before .never-sent .ensures) (c .before .before .if1 .left) (c .flagged .ensures) (c .before .before .before .before .before .before .loop .inv .3))
+loop-again c = (search needs, omega arith, c .before .before .before .before .before .before .loop .inv .2, state-walked 32 _ _ (c .before .before .before .before .before .before .loop .i) _ _ _ _ _ _ _ _ _ (c .before .data-place .ensures .0) (omega (arith, c .before .before .before .before .before .before .before .span .ensures)) (c .before .before .before .before .state .ensures) (c .before .before .before .never-sent .ensures) (c .before .before .if1 .left) (c .flagged .ensures) (c .before .before .before .before .before .before .loop .inv .3))
 
 add-j : tie.Need-add-j Inv-loop μ-loop Inv-bytes μ-bytes
 add-j c = search needs
@@ -77,13 +77,13 @@ bytes-less : tie.Need-bytes-less Inv-loop μ-loop Inv-bytes μ-bytes
 bytes-less c = search needs
 
 bytes-again : tie.Need-bytes-again Inv-loop μ-loop Inv-bytes μ-bytes
-bytes-again c = (search needs, omega arith, c .before .loop .inv .2, byte-ends _ _ (c .before .loop .i) _ _ _ _ _ (omega (arith, c .before .before .span .ensures)) (c .before .loop .inv .3))
+bytes-again c = (search needs, omega arith, c .before .loop .inv .2, byte-ends 32 _ _ (c .before .loop .i) _ _ _ _ _ (omega (arith, c .before .before .span .ensures)) (c .before .loop .inv .3))
 
 returns : tie.Need-returns Inv-loop μ-loop Inv-bytes μ-bytes
-returns c = vector-ends (c .before .before .before .args .d .now) (c .before .before .before .args .at) (c .before .before .before .args .size) (c .before .bytes .j) _ _ _ _ _ _ (omega arith) (omega arith) (c .before .bytes .inv .2) (c .before .bytes .inv .3)
+returns c = vector-ends 32 (c .before .before .before .args .d .now) (c .before .before .before .args .at) (c .before .before .before .args .size) (c .before .bytes .j) _ _ _ _ _ _ (omega arith) (omega arith) (c .before .bytes .inv .2) (c .before .bytes .inv .3)
 
 returns-2 : tie.Need-returns-2 Inv-loop μ-loop Inv-bytes μ-bytes
-returns-2 c = state-stops _ _ (c .before .before .before .before .loop .i) _ _ _ _ _ _ _ (omega (arith, c .before .before .before .before .before .span .ensures)) (c .before .before .state .ensures) (c .before .never-sent .ensures) (c .if1 .taken) (c .before .before .before .before .loop .inv .3)
+returns-2 c = state-stops 32 _ _ (c .before .before .before .before .loop .i) _ _ _ _ _ _ _ (omega (arith, c .before .before .before .before .before .span .ensures)) (c .before .before .state .ensures) (c .before .never-sent .ensures) (c .if1 .taken) (c .before .before .before .before .loop .inv .3)
 
 pub walk-spec : {M : Type 1} → statement M
 walk-spec =

@@ -16,7 +16,7 @@ opened-requires-2 : tie.Need-opened-requires-2
 opened-requires-2 c κs = search needs
 
 returns : tie.Need-returns
-returns c = refused _ _ _ _ _ _ (c .before .before .before .open-answer .ensures) (c .before .before .if1 .taken) (c .before .opened .ensures) (c .opened2 .ensures)
+returns c = refused 32 _ _ _ _ _ _ (c .before .before .before .open-answer .ensures) (c .before .before .if1 .taken) (c .before .opened .ensures) (c .opened2 .ensures)
 
 cast-data : tie.Need-cast-data
 cast-data c = let f = firsts-fit _ _ _ (sym (c .if1 .left) ∙ c .before .open-answer .ensures) .0 in omega arith
@@ -31,7 +31,7 @@ opened-requires-4 : tie.Need-opened-requires-4
 opened-requires-4 c κs = search needs
 
 returns-2 : tie.Need-returns-2
-returns-2 c = opens _ _ _ _ _ _ (c .before .before .before .open-answer .ensures) (c .before .before .if1 .left) (c .before .opened3 .ensures) (c .opened4 .ensures)
+returns-2 c = opens 32 _ _ _ _ _ _ (c .before .before .before .open-answer .ensures) (c .before .before .if1 .left) (c .before .opened3 .ensures) (c .opened4 .ensures)
 
 pub open-spec : {M : Type 1} → statement M
 open-spec =

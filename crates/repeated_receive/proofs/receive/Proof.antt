@@ -45,7 +45,7 @@ receive-spec =
       search needs,
       search needs,
       ended,
-      going-more _ _ _ _ _ _ _ _ _ (l .inv .3) (receive-steps _ _ _ _ _ _ _ _ _ _ part (x .1 .0) (x .1 .1 .0) (x .1 .1 .1)) (rw part at (x .0)),
+      going-more _ _ _ _ _ _ _ _ _ (l .inv .3) (receive-steps 32 _ _ _ _ _ _ _ _ _ _ part (x .1 .0) (x .1 .1 .0) (x .1 .1 .1)) (rw part at (x .0)),
     ))
     (λ c. search needs)
     (λ c. search needs)

@@ -50,7 +50,7 @@ send-spec =
       search needs,
       search needs,
       ended,
-      going-more _ _ _ _ _ _ _ _ _ (l .inv .4) (send-steps _ _ _ _ _ (l .out) _ _ _ _ _ part (x .1 .0) (x .1 .1 .0) (x .1 .1 .1)) (c .before .number .ensures ∙ ap writtenNumber (rw part at (x .0))),
+      going-more _ _ _ _ _ _ _ _ _ (l .inv .4) (send-steps 32 _ _ _ _ _ (l .out) _ _ _ _ _ part (x .1 .0) (x .1 .1 .0) (x .1 .1 .1)) (c .before .number .ensures ∙ ap writtenNumber (rw part at (x .0))),
     ))
     (λ c. search needs)
     (λ c. search needs)

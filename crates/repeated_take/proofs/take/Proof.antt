@@ -34,7 +34,7 @@ take-spec =
     (λ c. search needs)
     (λ c. let l = c .before .before .before .before .before .before .loop in
     let x = c .before .before .before .take .ensures in
-    (search needs, search needs, going-more _ _ _ _ _ _ _ _ _ (l .inv .2) (take-steps _ _ _ (l .out) _ (l .turn) (x .1 .0) (x .1 .1)) (c .number .ensures ∙ ap writtenNumber (x .0))))
+    (search needs, search needs, going-more _ _ _ _ _ _ _ _ _ (l .inv .2) (take-steps 32 _ _ _ (l .out) _ (l .turn) (x .1 .0) (x .1 .1)) (c .number .ensures ∙ ap writtenNumber (x .0))))
     (λ c. search needs)
     (λ c. search needs)
     (λ c. let l = c .before .before .loop in

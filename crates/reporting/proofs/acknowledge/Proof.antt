@@ -16,7 +16,7 @@ returns-2 : tie.Need-returns-2
 returns-2 c = acknowledge-nothing 32 32 (c .before .before .before .before .before .before .before .args .r) (c .before .before .before .before .before .before .before .args .stamp) (c .before .before .before .before .before .before .before .args .gap) (c .before .before .before .before .before .before .before .args .out .now) _ (c .before .before .before .before .before .consistent .ensures) (not-false _ (c .before .before .before .before .if1 .left)) (c .before .before .if2 .taken) (c .if3 .taken)
 
 write-ack-requires : tie.Need-write-ack-requires
-write-ack-requires c κs = past-first (c .before .before .before .before .before .before .before .before .args .r) (sym (c .before .before .before .before .before .before .consistent .ensures) ∙ not-false _ (c .before .before .before .before .before .if1 .left)) (c .before .if3 .left)
+write-ack-requires c κs = past-first 32 (c .before .before .before .before .before .before .before .before .args .r) (sym (c .before .before .before .before .before .before .consistent .ensures) ∙ not-false _ (c .before .before .before .before .before .if1 .left)) (c .before .if3 .left)
 
 same-length : tie.Need-same-length
 same-length c = search needs

@@ -16,7 +16,7 @@ abbrev μ-loop : tie.MeasureT-loop
 μ-loop s next c₀ c = next - c
 
 loop-holds : tie.Need-loop-holds Inv-loop μ-loop
-loop-holds c = waiting-start _
+loop-holds c = waiting-start 32 _
 
 channel-place-requires : tie.Need-channel-place-requires Inv-loop μ-loop
 channel-place-requires c κs = search needs
@@ -28,7 +28,7 @@ element-copy-out-b : tie.Need-element-copy-out-b Inv-loop μ-loop
 element-copy-out-b c = search needs
 
 returns : tie.Need-returns Inv-loop μ-loop
-returns c = waiting-here _ (c .before .before .before .before .before .loop .c) _ (omega arith) (rw (c .before .before .before .channel-place .ensures .0) at (eq-eqb _ _ (c .if1 .taken))) (c .before .before .before .before .before .loop .inv)
+returns c = waiting-here 32 _ (c .before .before .before .before .before .loop .c) _ (omega arith) (rw (c .before .before .before .channel-place .ensures .0) at (eq-eqb _ _ (c .if1 .taken))) (c .before .before .before .before .before .loop .inv)
 
 add-c : tie.Need-add-c Inv-loop μ-loop
 add-c c = search needs
@@ -37,10 +37,10 @@ loop-less : tie.Need-loop-less Inv-loop μ-loop
 loop-less c = search needs
 
 loop-again : tie.Need-loop-again Inv-loop μ-loop
-loop-again c = waiting-next _ (c .before .before .before .before .before .loop .c) _ (omega arith) (rw (c .before .before .before .channel-place .ensures .0) at (ne-eqb _ _ (c .if1 .left))) (c .before .before .before .before .before .loop .inv)
+loop-again c = waiting-next 32 _ (c .before .before .before .before .before .loop .c) _ (omega arith) (rw (c .before .before .before .channel-place .ensures .0) at (ne-eqb _ _ (c .if1 .left))) (c .before .before .before .before .before .loop .inv)
 
 returns-2 : tie.Need-returns-2 Inv-loop μ-loop
-returns-2 c = waiting-none _ (c .before .loop .c) _ (omega arith) (c .before .loop .inv)
+returns-2 c = waiting-none 32 _ (c .before .loop .c) _ (omega arith) (c .before .loop .inv)
 
 pub lowest-waiting-spec : {M : Type 1} → statement M
 lowest-waiting-spec =

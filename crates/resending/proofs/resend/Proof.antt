@@ -39,13 +39,13 @@ waits-here : (e : tie.After-known-told) → lowestWaiting 32 (from e .args .s) �
 waits-here e = lowest-some _ _ (sym (e .before .c .given .1) ∙ e .before .before .before .lowest-waiting .ensures)
 
 short-here : (e : tie.After-known-told) → blockAt 32 (from e .args .s) (channel e) .length ≤ longestSent
-short-here e = block-short _ _ _ (sound-here (e .before .before .before .before)) (waits-here e)
+short-here e = block-short 32 _ _ _ (omega arith) (sound-here (e .before .before .before .before)) (waits-here e)
 
 -- past the first four tests only the room is left to judge
 abbrev found : tie.Else4 → tie.After-known-told
 found e = e .before .before .before .before .before .before .before
 
-ready-here : (e : tie.Else4) → Ready (entry (from (found e))) (channel (found e))
+ready-here : (e : tie.Else4) → Ready 32 (entry (from (found e))) (channel (found e))
 ready-here e =
     record {
       sound = sound-here (found e .before .before .before .before);
@@ -57,7 +57,7 @@ ready-here e =
 returns : tie.Need-returns
 returns c =
     let b = c .before .before .before in
-    let l = resend-unsized (entry b) (b .args .tick) (b .args .out .now) (c .if1 .taken) in
+    let l = resend-unsized 32 (entry b) (b .args .tick) (b .args .out .now) (c .if1 .taken) in
     (l .written, (l .sender, l .bytes))
 
 consistent-requires : tie.Need-consistent-requires
@@ -66,7 +66,7 @@ consistent-requires c κs = search needs
 returns-2 : tie.Need-returns-2
 returns-2 c =
     let b = c .before .before .before .before .before in
-    let l = resend-unfit (entry b) (b .args .tick) (b .args .out .now) _ (c .before .before .if1 .left) (c .before .consistent .ensures) (not-true _ (c .if2 .taken)) in
+    let l = resend-unfit 32 (entry b) (b .args .tick) (b .args .out .now) _ (c .before .before .if1 .left) (c .before .consistent .ensures) (not-true _ (c .if2 .taken)) in
     (l .written, (l .sender, l .bytes))
 
 lowest-waiting-requires : tie.Need-lowest-waiting-requires
@@ -82,26 +82,26 @@ returns-3 : tie.Need-returns-3
 returns-3 c =
     let e = c .before .before .before in
     let b = start e in
-    let l = resend-none (entry b) (b .args .tick) (b .args .out .now) (sound-here e) (sym (c .enum-told .given .1) ∙ c .before .before .lowest-waiting .ensures) in
+    let l = resend-none 32 (entry b) (b .args .tick) (b .args .out .now) (sound-here e) (sym (c .enum-told .given .1) ∙ c .before .before .lowest-waiting .ensures) in
     (l .written, (l .sender, l .bytes))
 
 returns-4 : tie.Need-returns-4
 returns-4 c =
     let e = c .before .before .before .before in
     let b = from e in
-    let l = resend-used (entry b) (b .args .tick) (b .args .out .now) (channel e) (sound-here (e .before .before .before .before)) (waits-here e) (c .if3 .taken) in
+    let l = resend-used 32 (entry b) (b .args .tick) (b .args .out .now) (channel e) (sound-here (e .before .before .before .before)) (waits-here e) (c .if3 .taken) in
     (l .written, (l .sender, l .bytes))
 
 add-if4 : tie.Need-add-if4
 add-if4 c =
-    let f = sound-bounds _ _ (sound-here (c .before .before .before .before .before .before .before .before .before)) in
+    let f = sound-bounds 32 _ _ (omega arith) (sound-here (c .before .before .before .before .before .before .before .before .before)) in
     omega (arith, f .0 .next, f .0 .full)
 
 returns-5 : tie.Need-returns-5
 returns-5 c =
     let e = c .before .before .before .before .before .before .before in
     let b = from e in
-    let l = resend-full (entry b) (b .args .tick) (b .args .out .now) (channel e) (sound-here (e .before .before .before .before)) (waits-here e) (c .before .before .before .if3 .left) (c .if4 .taken) in
+    let l = resend-full 32 (entry b) (b .args .tick) (b .args .out .now) (channel e) (sound-here (e .before .before .before .before)) (waits-here e) (c .before .before .before .if3 .left) (c .if4 .taken) in
     (l .written, (l .sender, l .bytes))
 
 channel-place-requires : tie.Need-channel-place-requires
@@ -136,7 +136,7 @@ part-put-data-end : tie.Need-part-put-data-end
 part-put-data-end c =
     let o = c .before .before .before in
     let h = placed-short o _ (c .before .before .channel-place .ensures .0) in
-    let f = sound-bounds _ _ (sound-here (found o .before .before .before .before)) in
+    let f = sound-bounds 32 _ _ (omega arith) (sound-here (found o .before .before .before .before)) in
     omega (arith, f .1, h, c .before .before .channel-place .ensures .1)
 
 put-data-requires : tie.Need-put-data-requires
@@ -160,8 +160,8 @@ returns-6 c =
     let o = w .before .before .before .before .before .before in
     let e = found o in
     let b = from e in
-    let l = resend-roomless (entry b) (b .args .tick) (b .args .out .now) (channel e) (ready-here o) _
-    (datagram-is (entry b) (channel e) _ (w .before .before .before .before .before .channel-place .ensures .0) (waits-here e)) _ _ _
+    let l = resend-roomless 32 (entry b) (b .args .tick) (b .args .out .now) (channel e) (ready-here o) _
+    (datagram-is 32 (entry b) (channel e) _ (w .before .before .before .before .before .channel-place .ensures .0) (waits-here e)) _ _ _
     (c .before .n .given .1) (w .put-data .ensures .0) (w .put-data .ensures .1) in
     (l .written, (l .sender, l .bytes))
 
@@ -174,8 +174,8 @@ returns-7 c =
     let o = w .before .before .before .before .before .before in
     let e = found o in
     let b = from e in
-    let l = resend-sent (entry b) (b .args .tick) (b .args .out .now) (channel e) (ready-here o) _
-    (datagram-is (entry b) (channel e) _ (w .before .before .before .before .before .channel-place .ensures .0) (waits-here e)) _ _ _ _
+    let l = resend-sent 32 (entry b) (b .args .tick) (b .args .out .now) (channel e) (ready-here o) _
+    (datagram-is 32 (entry b) (channel e) _ (w .before .before .before .before .before .channel-place .ensures .0) (waits-here e)) _ _ _ _
     (c .before .before .k .given .1) (w .put-data .ensures .0) (w .put-data .ensures .1) (rw (w .before .before .before .before .before .channel-place .ensures .0) at (c .sent .ensures)) in
     (l .written, (l .sender, l .bytes))
 

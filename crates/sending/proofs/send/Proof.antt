@@ -27,7 +27,7 @@ past e = e .before .before .before .before .before .before .before .before .befo
 sound-here : (e : tie.Else2) → soundOf 32 32 (start e .args .s) (length (start e .args .store .now)) ≡ true
 sound-here e = sym (size-right 32 _ _ _ (e .before .before .if1 .left) (e .before .consistent .ensures)) ∙ not-false _ (e .if2 .left)
 
-open-here : (e : tie.Else5) → Open (entry (start (past e))) (start (past e) .args .block .now)
+open-here : (e : tie.Else5) → Open 32 (entry (start (past e))) (start (past e) .args .block .now)
 open-here e =
     record {
       sound = sound-here (past e);
@@ -39,7 +39,7 @@ open-here e =
 returns : tie.Need-returns
 returns c =
     let b = c .before .before .before .before in
-    let l = new-unsized (entry b) (b .args .tick) (b .args .block .now) (b .args .out .now) (c .if1 .taken) in
+    let l = new-unsized 32 (entry b) (b .args .tick) (b .args .block .now) (b .args .out .now) (c .if1 .taken) in
     (l .written, (l .sender, (l .kept, l .bytes)))
 
 consistent-requires : tie.Need-consistent-requires
@@ -48,13 +48,13 @@ consistent-requires c κs = search needs
 returns-2 : tie.Need-returns-2
 returns-2 c =
     let b = c .before .before .before .before .before .before in
-    let l = new-unfit (entry b) (b .args .tick) (b .args .block .now) (b .args .out .now) _ (c .before .before .if1 .left) (c .before .consistent .ensures) (not-true _ (c .if2 .taken)) in
+    let l = new-unfit 32 (entry b) (b .args .tick) (b .args .block .now) (b .args .out .now) _ (c .before .before .if1 .left) (c .before .consistent .ensures) (not-true _ (c .if2 .taken)) in
     (l .written, (l .sender, (l .kept, l .bytes)))
 
 returns-3 : tie.Need-returns-3
 returns-3 c =
     let b = start (c .before .before .before .before .before) in
-    let l = new-long (entry b) (b .args .tick) (b .args .block .now) (b .args .out .now) (sound-here (c .before .before .before .before .before)) (c .if3 .taken) in
+    let l = new-long 32 (entry b) (b .args .tick) (b .args .block .now) (b .args .out .now) (sound-here (c .before .before .before .before .before)) (c .if3 .taken) in
     (l .written, (l .sender, (l .kept, l .bytes)))
 
 used-up-requires : tie.Need-used-up-requires
@@ -64,12 +64,12 @@ returns-4 : tie.Need-returns-4
 returns-4 c =
     let e = c .before .before .before .before .before .before .before in
     let b = start e in
-    let l = new-used (entry b) (b .args .tick) (b .args .block .now) (b .args .out .now) _ (sound-here e) (c .before .before .if3 .left) (c .before .used-up .ensures) (c .if4 .taken) in
+    let l = new-used 32 (entry b) (b .args .tick) (b .args .block .now) (b .args .out .now) _ (sound-here e) (c .before .before .if3 .left) (c .before .used-up .ensures) (c .if4 .taken) in
     (l .written, (l .sender, (l .kept, l .bytes)))
 
 full-requires : tie.Need-full-requires
 full-requires c κs =
-    let f = sound-bounds _ _ (sound-here (c .before .before .before .before .before .before .before)) in
+    let f = sound-bounds 32 _ _ (omega arith) (sound-here (c .before .before .before .before .before .before .before)) in
     (omega (arith, f .0 .next, f .0 .full), omega (arith, f .0 .channelnext, f .0 .channelfull))
 
 returns-5 : tie.Need-returns-5
@@ -77,7 +77,7 @@ returns-5 c =
     let u = c .before .before .before in
     let e = u .before .before .before .before .before .before in
     let b = start e in
-    let l = new-full (entry b) (b .args .tick) (b .args .block .now) (b .args .out .now) _ _ (sound-here e) (u .before .if3 .left) (u .used-up .ensures) (c .before .before .if4 .left)
+    let l = new-full 32 (entry b) (b .args .tick) (b .args .block .now) (b .args .out .now) _ _ (sound-here e) (u .before .if3 .left) (u .used-up .ensures) (c .before .before .if4 .left)
     (c .before .full .ensures) (c .if5 .taken) in
     (l .written, (l .sender, (l .kept, l .bytes)))
 
@@ -104,11 +104,11 @@ cast-sent c = search needs
 
 add-t34 : tie.Need-add-t34
 add-t34 c =
-    let f = sound-bounds _ _ (sound-here (past (c .before .before .before .before .before .before .before .before .before .before .before .before .before))) in
+    let f = sound-bounds 32 _ _ (omega arith) (sound-here (past (c .before .before .before .before .before .before .before .before .before .before .before .before .before))) in
     omega (arith, f .0 .channelfull)
 
 sent-requires : tie.Need-sent-requires
-sent-requires c κs = sound-bounds _ _ (sound-here (past (c .before .before .before .before .before .before .before .before .before .before .before .before .before))) .0 .full
+sent-requires c κs = sound-bounds 32 _ _ (omega arith) (sound-here (past (c .before .before .before .before .before .before .before .before .before .before .before .before .before))) .0 .full
 
 same-length : tie.Need-same-length
 same-length c = search needs
@@ -119,7 +119,7 @@ returns-6 c =
     let w = c .before .before .before .before .before in
     let o = w .before .before in
     let b = start (past o) in
-    let l = new-roomless (entry b) (b .args .tick) (b .args .block .now) (b .args .out .now) _ _ _ (open-here o) (c .before .n .given .1)
+    let l = new-roomless 32 (entry b) (b .args .tick) (b .args .block .now) (b .args .out .now) _ _ _ (open-here o) (c .before .n .given .1)
     (w .put-data .ensures .0) (w .put-data .ensures .1) in
     (l .written, (l .sender, (l .kept, l .bytes)))
 
@@ -136,7 +136,7 @@ returns-7 c =
     let w = k .before .before .before .before in
     let o = w .before .before in
     let b = start (past o) in
-    let l = new-sent (entry b) (b .args .tick) (b .args .block .now) (b .args .out .now) _ _ _ _ _ _ (open-here o) (k .k .given .1) (w .put-data .ensures .0) (w .put-data .ensures .1)
+    let l = new-sent 32 (entry b) (b .args .tick) (b .args .block .now) (b .args .out .now) _ _ _ _ _ _ (open-here o) (k .k .given .1) (w .put-data .ensures .0) (w .put-data .ensures .1)
     (c .before .before .before .before .before .before .channel-place .ensures .0) (c .before .before .before .before .put .ensures) (c .sent .ensures) in
     (l .written, (l .sender, (l .kept, l .bytes)))
 

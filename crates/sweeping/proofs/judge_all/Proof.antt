@@ -6,13 +6,13 @@ use Rattle.sweeping.proofs.judge_all.Statement.{statement}
 use Rattle.sweeping.proofs.judge_all.Tie as tie
 
 abbrev Inv-loop : tie.InvT-loop
-Inv-loop tick s flags₀ count₀ higher₀ i₀ flags count higher i = Passed s tick flags count higher i
+Inv-loop tick s flags₀ count₀ higher₀ i₀ flags count higher i = Passed 32 s tick flags count higher i
 
 abbrev μ-loop : tie.MeasureT-loop
 μ-loop tick s flags₀ count₀ higher₀ i₀ flags count higher i = i
 
 loop-holds : tie.Need-loop-holds Inv-loop μ-loop
-loop-holds c = passed-none _ _
+loop-holds c = passed-none 32 _ _
 
 sub-i : tie.Need-sub-i Inv-loop μ-loop
 sub-i c = search needs
@@ -46,7 +46,7 @@ loop-less c = search needs
 
 loop-again : tie.Need-loop-again Inv-loop μ-loop
 loop-again c =
-    rw (c .before .before .before .before .before .before .data-place .ensures .0) (passed-next _ _ _ _ _ (c .before .before .before .before .before .before .before .before .loop .i) _ _ _ _ (omega arith)
+    rw (c .before .before .before .before .before .before .data-place .ensures .0) (passed-next 32 _ _ _ _ _ (c .before .before .before .before .before .before .before .before .loop .i) _ _ _ _ (omega arith)
     (c .before .before .before .before .before .before .before .before .loop .inv)
     (record {
       judged = rw (c .before .before .before .before .before .before .data-place .ensures .0) at (c .before .before .before .before .loses .ensures);
@@ -55,7 +55,7 @@ loop-again c =
     }))
 
 returns : tie.Need-returns Inv-loop μ-loop
-returns c = passed-all _ _ _ _ _ (c .before .loop .i) (omega arith) (c .before .loop .inv)
+returns c = passed-all 32 _ _ _ _ _ (c .before .loop .i) (omega arith) (c .before .loop .inv)
 
 pub judge-all-spec : {M : Type 1} → statement M
 judge-all-spec =

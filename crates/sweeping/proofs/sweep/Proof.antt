@@ -12,7 +12,7 @@ consistent-requires : tie.Need-consistent-requires
 consistent-requires c κs = search needs
 
 returns : tie.Need-returns
-returns c = swept-unfit _ _ (sym (c .before .consistent .ensures) ∙ not-true _ (c .if1 .taken))
+returns c = swept-unfit 32 _ _ (sym (c .before .consistent .ensures) ∙ not-true _ (c .if1 .taken))
 
 judge-all-requires : tie.Need-judge-all-requires
 judge-all-requires c κs =
@@ -23,7 +23,7 @@ turn-requires c κs = turnable 32 32 _ (omega arith) (omega arith) (sym (c .befo
 
 returns-2 : tie.Need-returns-2
 returns-2 c =
-    swept-fit _ _ _ _ _ (sym (c .before .before .before .before .consistent .ensures) ∙ not-false _ (c .before .before .before .if1 .left))
+    swept-fit 32 _ _ _ _ _ (sym (c .before .before .before .before .consistent .ensures) ∙ not-false _ (c .before .before .before .if1 .left))
     (c .before .before .judge-all .ensures .0) (c .before .before .judge-all .ensures .1) (c .turn .ensures)
 
 pub sweep-spec : {M : Type 1} → statement M

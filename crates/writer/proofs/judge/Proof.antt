@@ -4,7 +4,7 @@ use mathlib.Core.Bool.{Bool}
 use mathlib.Core.Path.{_∙_, ap, sym}
 use lib.ListN.{length}
 use Rattle.wire.specs.Layout.{sized}
-use Rattle.writer.proofs.Sizes.{body-long, size-is}
+use Rattle.fitting.proofs.Sizes.{body-long, size-is}
 use Rattle.writer.proofs.Judging.{values-fit, judged-values, judged-long, judged-room, judged-fits}
 use borrow.Author.Needs.{needs}
 use Rattle.writer.proofs.judge.Statement.{statement}

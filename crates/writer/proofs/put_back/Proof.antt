@@ -7,9 +7,9 @@ use lib.ListN.{length}
 use Rattle.common.specs.Laid.{lays, done, next}
 use Rattle.wire.specs.Flags.{both}
 use Rattle.wire.specs.Write.{wordBytes, vectorBytes, vectorWide}
-use Rattle.writer.specs.Steps.{backBytes}
-use Rattle.writer.proofs.Given.{laid-flag, given-length}
-use Rattle.writer.proofs.Widths.{back-length}
+use Rattle.laying.specs.Halves.{backBytes}
+use Rattle.laying.proofs.Given.{laid-flag, given-length}
+use Rattle.laying.proofs.Widths.{back-length}
 use borrow.Author.Needs.{needs}
 use Rattle.writer.proofs.put_back.Statement.{statement}
 use Rattle.writer.proofs.put_back.Tie as tie

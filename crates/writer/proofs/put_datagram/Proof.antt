@@ -2,7 +2,7 @@
 use native.Mathlib.Omega.{arith}
 use borrow.Author.Tests.{leb-false}
 use Rattle.common.specs.Laid.{laid-as, lays, done, next}
-use Rattle.writer.proofs.Sizes.{datagram-length, packet-length}
+use Rattle.fitting.proofs.Sizes.{datagram-length, packet-length}
 use Rattle.writer.proofs.Judging.{accepted, few-flags}
 use Rattle.writer.proofs.Framing.{laid-swapped, framed-parts, parts-length}
 use borrow.Author.Needs.{needs}

@@ -7,9 +7,9 @@ use lib.ListN.{length}
 use Rattle.common.specs.Laid.{laid-as, lays, done, next}
 use Rattle.wire.specs.Flags.{both}
 use Rattle.wire.specs.Write.{wordBytes, ackBytes, ackWide, delayBytes}
-use Rattle.writer.specs.Steps.{frontBytes}
-use Rattle.writer.proofs.Given.{laid-flag, given-length}
-use Rattle.writer.proofs.Widths.{front-length}
+use Rattle.laying.specs.Halves.{frontBytes}
+use Rattle.laying.proofs.Given.{laid-flag, given-length}
+use Rattle.laying.proofs.Widths.{front-length}
 use borrow.Author.Needs.{needs}
 use Rattle.writer.proofs.put_front.Statement.{statement}
 use Rattle.writer.proofs.put_front.Tie as tie

@@ -4,7 +4,7 @@ use mathlib.Core.Path.{refl, sym}
 use Rattle.wire.specs.Round.Framing.{part-length}
 use Rattle.receiver.specs.Blocks.{read-block}
 use Rattle.receiver.specs.Facts.{consistent-facts}
-use Rattle.arriving.proofs.Told.{waiver-told, content-told, content-data}
+use Rattle.judging.proofs.Told.{waiver-told, content-told, content-data}
 use Rattle.arriving.proofs.Applying.{applied-refused, applied-nothing, applied-waiver, applied-content}
 use borrow.Author.Needs.{needs}
 use Rattle.arriving.proofs.packet.apply.Statement.{statement}

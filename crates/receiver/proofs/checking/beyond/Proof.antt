@@ -16,7 +16,7 @@ abbrev μ-loop : tie.MeasureT-loop
 μ-loop due room holds wrong₀ k₀ wrong k = 32 - k
 
 returns : tie.Need-returns Inv-loop μ-loop
-returns c = all-low _ _ _ (c .if1 .taken)
+returns c = all-low 32 _ _ _ (c .if1 .taken)
 
 loop-holds : tie.Need-loop-holds Inv-loop μ-loop
 loop-holds c = (search needs, raised-none _ _)
@@ -37,7 +37,7 @@ loop-less : tie.Need-loop-less Inv-loop μ-loop
 loop-less c = search needs
 
 loop-again : tie.Need-loop-again Inv-loop μ-loop
-loop-again c = (search needs, raised-more _ _ _ _ _ (c .before .before .before .before .loop .inv .1) (held-high _ _ _ _ _ (c .before .past .ensures)))
+loop-again c = (search needs, raised-more _ _ _ _ _ (c .before .before .before .before .loop .inv .1) (held-high 32 _ _ _ _ _ (c .before .past .ensures)))
 
 returns-2 : tie.Need-returns-2 Inv-loop μ-loop
 returns-2 c = raised-once _ 32 _ _ (omega arith) (c .before .loop .inv .1)

@@ -5,7 +5,7 @@ use native.Mathlib.Omega.{arith}
 use borrow.Author.Needs.{needs}
 use borrow.Author.Tests.{not-true, not-false}
 use Rattle.common.specs.EveryLaws.{raised, raised-none, raised-more, raised-twice}
-use Rattle.receiver.proofs.Consistency.{markPlaced, keptPlaced, bounds-told, bounds-fail, base-fails, end-fails, places-fail, beyond-fails, end-decides, end-low, unmapped}
+use Rattle.receiver.proofs.Consistency.{unmapped, markPlaced, keptPlaced, bounds-told, bounds-fail, base-fails, end-fails, places-fail, beyond-fails, end-decides, end-low}
 use Rattle.receiver.proofs.checking.consistent.Statement.{statement}
 use Rattle.receiver.proofs.checking.consistent.Tie as tie
 
@@ -25,7 +25,7 @@ bounds-fit-requires : tie.Need-bounds-fit-requires Inv-loop μ-loop Inv-loop2 μ
 bounds-fit-requires c κs = search needs
 
 returns : tie.Need-returns Inv-loop μ-loop Inv-loop2 μ-loop2
-returns c = bounds-fail (c .before .before .args .t1) _ (c .before .bounds-fit .ensures) (not-true _ (c .if1 .taken))
+returns c = bounds-fail 32 (c .before .before .args .t1) _ (c .before .bounds-fit .ensures) (not-true _ (c .if1 .taken))
 
 data-place-requires : tie.Need-data-place-requires Inv-loop μ-loop Inv-loop2 μ-loop2
 data-place-requires c κs = search needs
@@ -34,13 +34,13 @@ element-copy-out-if2 : tie.Need-element-copy-out-if2 Inv-loop μ-loop Inv-loop2 
 element-copy-out-if2 c = search needs
 
 returns-2 : tie.Need-returns-2 Inv-loop μ-loop Inv-loop2 μ-loop2
-returns-2 c = base-fails (c .before .before .before .before .before .before .args .t1) _ (c .before .before .data-place .ensures .0) (c .if2 .taken)
+returns-2 c = base-fails 32 (c .before .before .before .before .before .before .args .t1) _ (c .before .before .data-place .ensures .0) (c .if2 .taken)
 
 add-if3 : tie.Need-add-if3 Inv-loop μ-loop Inv-loop2 μ-loop2
 add-if3 c = omega (arith, bounds-told (c .before .before .before .before .before .before .args .t1) _ (c .before .before .before .before .before .bounds-fit .ensures) (not-false _ (c .before .before .before .before .if1 .left)) .baseFits)
 
 returns-3 : tie.Need-returns-3 Inv-loop μ-loop Inv-loop2 μ-loop2
-returns-3 c = end-fails (c .before .before .before .before .before .before .before .args .t1) (c .if3 .taken)
+returns-3 c = end-fails 32 (c .before .before .before .before .before .before .before .args .t1) (c .if3 .taken)
 
 count-requires : tie.Need-count-requires Inv-loop μ-loop Inv-loop2 μ-loop2
 count-requires c κs = search needs
@@ -88,7 +88,7 @@ loop2-again : tie.Need-loop2-again Inv-loop μ-loop Inv-loop2 μ-loop2
 loop2-again c = (search needs, raised-more _ (keptPlaced (c .before .before .before .before .before .before .before .before .before .before .before .before .before .before .args .t1)) _ _ _ (c .before .before .before .loop2 .inv .1) (c .hold-wrong .ensures))
 
 returns-4 : tie.Need-returns-4 Inv-loop μ-loop Inv-loop2 μ-loop2
-returns-4 c = places-fail (c .before .before .before .before .before .before .before .before .before .before .before .before .before .args .t1) _ (raised-twice _ _ 32 32 _ _ _ _ (omega arith) (omega arith) (c .before .before .before .before .loop .inv .1) (c .before .before .loop2 .inv .1)) (c .if4 .taken)
+returns-4 c = places-fail 32 (c .before .before .before .before .before .before .before .before .before .before .before .before .before .args .t1) _ (raised-twice _ _ 32 32 _ _ _ _ (omega arith) (omega arith) (c .before .before .before .before .loop .inv .1) (c .before .before .loop2 .inv .1)) (c .if4 .taken)
 
 count-requires-2 : tie.Need-count-requires-2 Inv-loop μ-loop Inv-loop2 μ-loop2
 count-requires-2 c κs = search needs
@@ -97,7 +97,7 @@ beyond-requires : tie.Need-beyond-requires Inv-loop μ-loop Inv-loop2 μ-loop2
 beyond-requires c κs = search needs
 
 returns-5 : tie.Need-returns-5 Inv-loop μ-loop Inv-loop2 μ-loop2
-returns-5 c = beyond-fails (c .before .before .before .before .before .before .before .before .before .before .before .before .before .before .before .before .before .args .t1) _ (rw (c .before .before .count2 .ensures) at (c .before .beyond .ensures)) (c .if5 .taken)
+returns-5 c = beyond-fails 32 (c .before .before .before .before .before .before .before .before .before .before .before .before .before .before .before .before .before .args .t1) _ (rw (c .before .before .count2 .ensures) at (c .before .beyond .ensures)) (c .if5 .taken)
 
 sub-t33 : tie.Need-sub-t33 Inv-loop μ-loop Inv-loop2 μ-loop2
 sub-t33 c = search needs
@@ -109,10 +109,10 @@ element-copy-out-result : tie.Need-element-copy-out-result Inv-loop μ-loop Inv-
 element-copy-out-result c = search needs
 
 returns-6 : tie.Need-returns-6 Inv-loop μ-loop Inv-loop2 μ-loop2
-returns-6 c = end-decides (c .before .before .before .before .before .before .before .before .before .before .before .before .before .before .before .before .before .before .before .before .args .t1) (search (needs, unmapped)) (search (needs, unmapped)) _ (c .before .before .before .before .before .before .before .before .before .before .before .before .before .before .before .before .before .before .before .bounds-fit .ensures) (not-false _ (c .before .before .before .before .before .before .before .before .before .before .before .before .before .before .before .before .before .before .if1 .left)) _ (c .before .before .before .before .before .before .before .before .before .before .before .before .before .before .before .before .data-place .ensures .0) (c .before .before .before .before .before .before .before .before .before .before .before .before .before .before .if2 .left) (c .before .before .before .before .before .before .before .before .before .before .before .before .before .if3 .left) _ (raised-twice _ _ 32 32 _ _ _ _ (omega arith) (omega arith) (c .before .before .before .before .before .before .before .before .before .before .before .loop .inv .1) (c .before .before .before .before .before .before .before .before .before .loop2 .inv .1)) (c .before .before .before .before .before .before .before .if4 .left) _ (rw (c .before .before .before .before .before .count2 .ensures) at (c .before .before .before .before .beyond .ensures)) (c .before .before .before .if5 .left) _ (c .before .before .if6 .taken) (c .before .data-place2 .ensures .0)
+returns-6 c = end-decides 32 (c .before .before .before .before .before .before .before .before .before .before .before .before .before .before .before .before .before .before .before .before .args .t1) (search (needs, unmapped)) (search (needs, unmapped)) _ (c .before .before .before .before .before .before .before .before .before .before .before .before .before .before .before .before .before .before .before .bounds-fit .ensures) (not-false _ (c .before .before .before .before .before .before .before .before .before .before .before .before .before .before .before .before .before .before .if1 .left)) _ (c .before .before .before .before .before .before .before .before .before .before .before .before .before .before .before .before .data-place .ensures .0) (c .before .before .before .before .before .before .before .before .before .before .before .before .before .before .if2 .left) (c .before .before .before .before .before .before .before .before .before .before .before .before .before .if3 .left) _ (raised-twice _ _ 32 32 _ _ _ _ (omega arith) (omega arith) (c .before .before .before .before .before .before .before .before .before .before .before .loop .inv .1) (c .before .before .before .before .before .before .before .before .before .loop2 .inv .1)) (c .before .before .before .before .before .before .before .if4 .left) _ (rw (c .before .before .before .before .before .count2 .ensures) at (c .before .before .before .before .beyond .ensures)) (c .before .before .before .if5 .left) _ (c .before .before .if6 .taken) (c .before .data-place2 .ensures .0)
 
 returns-7 : tie.Need-returns-7 Inv-loop μ-loop Inv-loop2 μ-loop2
-returns-7 c = end-low (c .before .before .before .before .before .before .before .before .before .before .before .before .before .before .before .before .before .before .args .t1) (search (needs, unmapped)) (search (needs, unmapped)) _ (c .before .before .before .before .before .before .before .before .before .before .before .before .before .before .before .before .before .bounds-fit .ensures) (not-false _ (c .before .before .before .before .before .before .before .before .before .before .before .before .before .before .before .before .if1 .left)) _ (c .before .before .before .before .before .before .before .before .before .before .before .before .before .before .data-place .ensures .0) (c .before .before .before .before .before .before .before .before .before .before .before .before .if2 .left) (c .before .before .before .before .before .before .before .before .before .before .before .if3 .left) _ (raised-twice _ _ 32 32 _ _ _ _ (omega arith) (omega arith) (c .before .before .before .before .before .before .before .before .before .loop .inv .1) (c .before .before .before .before .before .before .before .loop2 .inv .1)) (c .before .before .before .before .before .if4 .left) _ (rw (c .before .before .before .count2 .ensures) at (c .before .before .beyond .ensures)) (c .before .if5 .left) (c .if6 .left)
+returns-7 c = end-low 32 (c .before .before .before .before .before .before .before .before .before .before .before .before .before .before .before .before .before .before .args .t1) (search (needs, unmapped)) (search (needs, unmapped)) _ (c .before .before .before .before .before .before .before .before .before .before .before .before .before .before .before .before .before .bounds-fit .ensures) (not-false _ (c .before .before .before .before .before .before .before .before .before .before .before .before .before .before .before .before .if1 .left)) _ (c .before .before .before .before .before .before .before .before .before .before .before .before .before .before .data-place .ensures .0) (c .before .before .before .before .before .before .before .before .before .before .before .before .if2 .left) (c .before .before .before .before .before .before .before .before .before .before .before .if3 .left) _ (raised-twice _ _ 32 32 _ _ _ _ (omega arith) (omega arith) (c .before .before .before .before .before .before .before .before .before .loop .inv .1) (c .before .before .before .before .before .before .before .loop2 .inv .1)) (c .before .before .before .before .before .if4 .left) _ (rw (c .before .before .before .count2 .ensures) at (c .before .before .beyond .ensures)) (c .before .if5 .left) (c .if6 .left)
 
 pub consistent-spec : {M : Type 1} → statement M
 consistent-spec =

@@ -74,10 +74,10 @@ enum-told c = search needs
 
 returns : tie.Need-returns Inv-loop μ-loop
 returns c =
-    vector-never (c .before .before .before .before .before .before .before .before .before .args .t1)
+    vector-never 32 (c .before .before .before .before .before .before .before .before .before .args .t1)
     (c .before .before .before .before .before .before .before .before .before .pre .0) _
     (states-done 32 (c .before .before .before .before .before .before .before .before .before .args .t1) _ _ _ _ (omega arith)
-    (c .before .before .before .before .before .before .before .loop .inv .2)) _ (replicate 32 0) _ refl (c .before .before .before .write .ensures .0)
+    (c .before .before .before .before .before .before .before .loop .inv .2)) _ (replicate 32 0) _ (omega arith) (c .before .before .before .write .ensures .0)
     (c .before .before .before .write .ensures .1) _ (c .enum-told .given .1)
 
 cast-base : tie.Need-cast-base Inv-loop μ-loop
@@ -87,10 +87,10 @@ cast-t34 : tie.Need-cast-t34 Inv-loop μ-loop
 cast-t34 c =
     omega (
       arith,
-      vector-coded (c .before .before .before .before .before .before .before .before .before .before .args .t1)
+      vector-coded 32 (c .before .before .before .before .before .before .before .before .before .before .args .t1)
           (c .before .before .before .before .before .before .before .before .before .before .pre .0) _
           (states-done 32 (c .before .before .before .before .before .before .before .before .before .before .args .t1) _ _ _ _ (omega arith)
-          (c .before .before .before .before .before .before .before .before .loop .inv .2)) (c .before .before .before .before .write .result) (replicate 32 0) _ refl
+          (c .before .before .before .before .before .before .before .before .loop .inv .2)) (c .before .before .before .before .write .result) (replicate 32 0) _ (omega arith)
           (c .before .before .before .before .write .ensures .0) (c .before .before .before .before .write .ensures .1) (c .before .k .given .0 .0) (c .before .k .given .1) .fits,
     )
 
@@ -99,18 +99,18 @@ slice-aggregate-write-3 c = search needs
 
 array-share-prefix-coded : tie.Need-array-share-prefix-coded Inv-loop μ-loop
 array-share-prefix-coded c =
-    vector-coded (c .before .before .before .before .before .before .before .before .before .before .before .args .t1)
+    vector-coded 32 (c .before .before .before .before .before .before .before .before .before .before .before .args .t1)
     (c .before .before .before .before .before .before .before .before .before .before .before .pre .0) _
     (states-done 32 (c .before .before .before .before .before .before .before .before .before .before .before .args .t1) _ _ _ _ (omega arith)
-    (c .before .before .before .before .before .before .before .before .before .loop .inv .2)) _ (replicate 32 0) _ refl
+    (c .before .before .before .before .before .before .before .before .before .loop .inv .2)) _ (replicate 32 0) _ (omega arith)
     (c .before .before .before .before .before .write .ensures .0) (c .before .before .before .before .before .write .ensures .1) _ (c .before .before .k .given .1) .within
 
 slice-aggregate-write-4 : tie.Need-slice-aggregate-write-4 Inv-loop μ-loop
 slice-aggregate-write-4 c =
-    let v = vector-coded (c .before .before .before .before .before .before .before .before .before .before .before .before .args .t1)
+    let v = vector-coded 32 (c .before .before .before .before .before .before .before .before .before .before .before .before .args .t1)
     (c .before .before .before .before .before .before .before .before .before .before .before .before .pre .0) _
     (states-done 32 (c .before .before .before .before .before .before .before .before .before .before .before .before .args .t1) _ _ _ _ (omega arith)
-    (c .before .before .before .before .before .before .before .before .before .before .loop .inv .2)) _ (replicate 32 0) _ refl
+    (c .before .before .before .before .before .before .before .before .before .before .loop .inv .2)) _ (replicate 32 0) _ (omega arith)
     (c .before .before .before .before .before .before .write .ensures .0) (c .before .before .before .before .before .before .write .ensures .1) _
     (c .before .before .before .k .given .1) in
     v .size ∙ ap length (sym (v .same))
@@ -126,15 +126,15 @@ same-length c = search needs
 
 returns-2 : tie.Need-returns-2 Inv-loop μ-loop
 returns-2 c =
-    vector-written (c .before .before .before .before .before .before .before .before .before .before .before .before .before .before .before .before .before .args .t1) _ _
-    (c .before .before .before .before .before .before .before .before .before .before .before .before .before .before .before .before .before .args .out .now) _ _
-    (vector-coded (c .before .before .before .before .before .before .before .before .before .before .before .before .before .before .before .before .before .args .t1)
+    let v = vector-coded 32 (c .before .before .before .before .before .before .before .before .before .before .before .before .before .before .before .before .before .args .t1)
     (c .before .before .before .before .before .before .before .before .before .before .before .before .before .before .before .before .before .pre .0) _
     (states-done 32 (c .before .before .before .before .before .before .before .before .before .before .before .before .before .before .before .before .before .args .t1) _ _
     _ _ (omega arith) (c .before .before .before .before .before .before .before .before .before .before .before .before .before .before .before .loop .inv .2)) _
-    (replicate 32 0) _ refl (c .before .before .before .before .before .before .before .before .before .before .before .write .ensures .0)
+    (replicate 32 0) _ (omega arith) (c .before .before .before .before .before .before .before .before .before .before .before .write .ensures .0)
     (c .before .before .before .before .before .before .before .before .before .before .before .write .ensures .1) _
-    (c .before .before .before .before .before .before .before .before .k .given .1)) (c .before .before .write2 .ensures .0) (c .before .before .write2 .ensures .1)
+    (c .before .before .before .before .before .before .before .before .k .given .1) in
+    vector-written 32 (c .before .before .before .before .before .before .before .before .before .before .before .before .before .before .before .before .before .args .t1) _ _
+    (c .before .before .before .before .before .before .before .before .before .before .before .before .before .before .before .before .before .args .out .now) _ _ v (omega (arith, v .fits)) (c .before .before .write2 .ensures .0) (c .before .before .write2 .ensures .1)
 
 pub write-vector-spec : {M : Type 1} → statement M
 write-vector-spec =

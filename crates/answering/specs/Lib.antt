@@ -1,0 +1,2 @@
+-- The lines of events' answers.
+pub mod Answers

@@ -1,0 +1,2 @@
+-- The parts of a packet, as they are laid.
+pub mod Halves

@@ -1,0 +1,2 @@
+-- The values of a listing's lines.
+pub mod Fields
