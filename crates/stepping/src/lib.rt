@@ -39,7 +39,7 @@ pub fn begin() -> State
     ensures { λ r. ⌜ r ≡ freshState ⌝ }
 {
     State {
-        cursor: trace_reading::begin(),
+        cursor: trace::begin(),
         sender: sender::opened(0, 0, 0),
         receiver: receiver::opened(0, 0),
     }
@@ -100,7 +100,7 @@ fn data_line(
         Written::Refused(_) => Stepped {
             at,
             state: State {
-                cursor: trace_reading::behind_data(c, false),
+                cursor: trace::behind_data(c, false),
                 sender,
                 receiver,
             },
@@ -122,7 +122,7 @@ fn data_line(
             Stepped {
                 at: x.at,
                 state: State {
-                    cursor: trace_reading::behind_data(c, true),
+                    cursor: trace::behind_data(c, true),
                     sender: after,
                     receiver: then,
                 },

@@ -3,6 +3,7 @@
 // `trace_head` and `trace_writing` write one into lent buffers. Nothing here knows an endpoint.
 ghost use mathlib.Core.Path.{_≡_};
 ghost use Rattle.trace.specs.Kinds.{carries};
+ghost use Rattle.trace.specs.Read.{freshCursor, dueOf, behindData};
 
 // The first line, which the reader compares and the writer writes, and the second.
 pub const FORMAT: [u8; 20] = *b"format=counter-trace";
@@ -87,4 +88,42 @@ pub fn has_data(kind: u8) -> bool
         return true;
     }
     kind == SEND
+}
+
+// The cursor before the first line.
+pub fn begin() -> Cursor
+    ensures { λ r. ⌜ r ≡ freshCursor ⌝ }
+{
+    Cursor {
+        due: FORMAT_DUE,
+        firstdata: 0,
+        firstchannel: 0,
+        timeout: 0,
+        tick: 0,
+        kind: 0,
+    }
+}
+
+// The cursor with another line due.
+pub fn waiting(c: Cursor, due: u8) -> Cursor
+    ensures { λ r. ⌜ r ≡ dueOf c due ⌝ }
+{
+    let mut r = c;
+    r.due = due;
+    r
+}
+
+// The cursor behind a line of data: the next tick is due where `trace_data::read` took the line, and no line any more where it was refused. Where no data
+// is due, the cursor stays as it is.
+pub fn behind_data(c: Cursor, taken: bool) -> Cursor
+    ensures { λ r. ⌜ r ≡ behindData c taken ⌝ }
+{
+    let due = c.due;
+    if due != DATA_DUE {
+        return c;
+    }
+    if taken {
+        return waiting(c, TICK_DUE);
+    }
+    waiting(c, BROKEN)
 }

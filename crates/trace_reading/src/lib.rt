@@ -1,27 +1,14 @@
 // Reading a trace, line by line, with a cursor by value between the lines. A line is what stands between two newlines, or behind the last.
-// Where data is due `trace_data::read` reads the line, and `behind_data` says what is due behind it; `next` reads any other.
+// `trace::begin` is the cursor before the first. Where data is due `trace_data::read` reads the line, and `trace::behind_data` says what is
+// due behind it; `next` reads any other.
 ghost use mathlib.Core.Path.{_≡_};
 ghost use mathlib.Core.Bool.{cond};
 ghost use Rattle.trace.specs.Words.{same};
 ghost use Rattle.trace.specs.Kinds.{kindOf};
-ghost use Rattle.trace.specs.Read.{headless, freshCursor, dueOf, atFirst, atTimeout, atTick, atKind, nextOf, behindData};
+ghost use Rattle.trace.specs.Read.{headless, dueOf, atFirst, atTimeout, atTick, atKind, nextOf};
 use trace::Cursor;
 use trace::Pair;
 use trace::Value;
-
-// The cursor before the first line.
-pub fn begin() -> Cursor
-    ensures { λ r. ⌜ r ≡ freshCursor ⌝ }
-{
-    Cursor {
-        due: trace::FORMAT_DUE,
-        firstdata: 0,
-        firstchannel: 0,
-        timeout: 0,
-        tick: 0,
-        kind: 0,
-    }
-}
 
 // The kind that a line names, 0 where it names none.
 fn kind_named(line: &[u8]) -> u8
@@ -48,23 +35,14 @@ fn kind_named(line: &[u8]) -> u8
     0
 }
 
-// The cursor with another line due.
-fn waiting(c: Cursor, due: u8) -> Cursor
-    ensures { λ r. ⌜ r ≡ dueOf c due ⌝ }
-{
-    let mut r = c;
-    r.due = due;
-    r
-}
-
 // A line that must be one fixed byte string.
 fn at_fixed(c: Cursor, line: &[u8], words: &[u8], due: u8) -> Cursor
     ensures { λ r. ⌜ r ≡ dueOf c (cond (same (now (line .entry)) (now (words .entry))) due headless) ⌝ }
 {
     if trace_words::equals(line, words) {
-        return waiting(c, due);
+        return trace::waiting(c, due);
     }
-    waiting(c, trace::HEADLESS)
+    trace::waiting(c, trace::HEADLESS)
 }
 
 // The line `first=`.
@@ -72,7 +50,7 @@ fn at_first(c: Cursor, line: &[u8]) -> Cursor
     ensures { λ r. ⌜ r ≡ atFirst c (now (line .entry)) ⌝ }
 {
     let Pair::Both(data, channel) = trace_words::first_numbers(line) else {
-        return waiting(c, trace::HEADLESS);
+        return trace::waiting(c, trace::HEADLESS);
     };
     let mut r = c;
     r.due = trace::TIMEOUT_DUE;
@@ -86,7 +64,7 @@ fn at_timeout(c: Cursor, line: &[u8]) -> Cursor
     ensures { λ r. ⌜ r ≡ atTimeout c (now (line .entry)) ⌝ }
 {
     let Value::Given(timeout) = trace_words::number_under(line, b"timeout=") else {
-        return waiting(c, trace::HEADLESS);
+        return trace::waiting(c, trace::HEADLESS);
     };
     let mut r = c;
     r.due = trace::TICK_DUE;
@@ -99,7 +77,7 @@ fn at_tick(c: Cursor, line: &[u8]) -> Cursor
     ensures { λ r. ⌜ r ≡ atTick c (now (line .entry)) ⌝ }
 {
     let Value::Given(tick) = trace_words::number_under(line, b"tick=") else {
-        return waiting(c, trace::BROKEN);
+        return trace::waiting(c, trace::BROKEN);
     };
     let mut r = c;
     r.due = trace::KIND_DUE;
@@ -113,7 +91,7 @@ fn at_kind(c: Cursor, line: &[u8]) -> Cursor
 {
     let kind = kind_named(line);
     if kind == 0 {
-        return waiting(c, trace::BROKEN);
+        return trace::waiting(c, trace::BROKEN);
     }
     let mut r = c;
     r.due = trace::DATA_DUE;
@@ -146,19 +124,4 @@ pub fn next(c: Cursor, line: &[u8]) -> Cursor
         return at_kind(c, line);
     }
     c
-}
-
-// The cursor behind a line of data: the next tick is due where `trace_data::read` took the line, and no line any more where it was refused. Where no data
-// is due, the cursor stays as it is.
-pub fn behind_data(c: Cursor, taken: bool) -> Cursor
-    ensures { λ r. ⌜ r ≡ behindData c taken ⌝ }
-{
-    let due = c.due;
-    if due != trace::DATA_DUE {
-        return c;
-    }
-    if taken {
-        return waiting(c, trace::TICK_DUE);
-    }
-    waiting(c, trace::BROKEN)
 }

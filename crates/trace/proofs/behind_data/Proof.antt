@@ -1,8 +1,8 @@
 -- `behind_data` meets its contract: a law for each way out.
 use borrow.Author.Needs.{needs}
 use Rattle.trace.proofs.Due.{behind-none, behind-taken, behind-refused}
-use Rattle.trace_reading.proofs.behind_data.Statement.{statement}
-use Rattle.trace_reading.proofs.behind_data.Tie as tie
+use Rattle.trace.proofs.behind_data.Statement.{statement}
+use Rattle.trace.proofs.behind_data.Tie as tie
 
 returns : tie.Need-returns
 returns c = behind-none _ _ (c .if1 .taken)
