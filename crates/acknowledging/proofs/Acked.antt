@@ -1,18 +1,18 @@
 -- Judging and the whole call: a law for each way out, over any window w.
-use Prim.Native.Nat.{ℕ, _+_, _-_, _≤_, _<_}
-use mathlib.Core.Bool.{Bool, true, false, cond}
+use Prim.Native.Nat.{ℕ, _+_, _≤_, _<_}
+use mathlib.Core.Bool.{true, false}
 use mathlib.Core.List.{List}
-use mathlib.Core.Path.{_≡_, refl, sym, _∙_, ap}
-use native.Mathlib.Omega.{arith}
+use mathlib.Core.Path.{_≡_, refl, sym, _∙_, ap, subst}
 use lib.ListN.{replicate}
-use lib.Dec.{leb}
-use borrow.Author.Tests.{lt-ltb, le-ltb, lt-leb, le-leb, eq-eqb, ne-eqb}
+use borrow.Author.Tests.{lt-ltb, le-ltb, lt-leb, le-leb, ne-eqb}
 use Rattle.common.specs.Choice.{when, unless}
 use Rattle.numbers.specs.declared.DataNumber.{DataNumber}
 use Rattle.numbers.specs.declared.Widened.{Widened}
-use Rattle.numbers.specs.declared.Widened.the-variants.{At, Below}
-use Rattle.numbers.specs.declared.WidenedData.the-variants.{At as DataAt, Below as DataBelow}
-use Rattle.numbers.specs.Widen.{widenOf, backOf, dataOf, fromData, from-data}
+use Rattle.numbers.specs.declared.Widened.the-variants.{At}
+use Rattle.numbers.specs.declared.WidenedData.{WidenedData}
+use Rattle.numbers.specs.declared.WidenedData.the-variants.{At as DataAt, Below as DataBelow, Unclear as DataUnclear}
+use Rattle.numbers.specs.Widen.{widenOf, dataOf, fromData, from-data}
+use Rattle.numbers.specs.Nearest.{Near, widen-near}
 use Rattle.vector.specs.Says.{statesOf}
 use Rattle.wire.specs.declared.Packet.{Packet}
 use Rattle.wire.specs.declared.Reading.the-variants.{Refused, Dummy, Read}
@@ -26,65 +26,61 @@ use Rattle.turning.specs.Chosen.{chosenBy}
 use Rattle.sender.specs.Acknowledge.{acknowledging, toldBy, toldAnswer, toldOf, readAnswer, readInto, acknowledgeAnswer, acknowledgeOf}
 use Rattle.acknowledging.specs.Walk.{walkOf, nothing, judgeUpTo, fromWalk, judgeListed, appliedOf, applied-so}
 
-data-at : (a : Widened) (n : DataNumber) → DataAt n ≡ dataOf a → a ≡ At (n .0)
-data-at a n h = sym (ap fromData h ∙ from-data a)
+-- the number of no kind yet that was widened to
+data-is : (x : WidenedData) (a : Widened) → x ≡ dataOf a → a ≡ fromData x
+data-is x a h = sym (ap fromData h ∙ from-data a)
 
-data-below : (a : Widened) (m : ℕ) → DataBelow m ≡ dataOf a → a ≡ Below m
-data-below a m h = sym (ap fromData h ∙ from-data a)
-
-numberIn : Widened → ℕ
-numberIn (At n) = n
-numberIn (Below m) = 0
-
-widened-high : (r f : ℕ) (t : Bool) → numberIn (cond t (At (r + 32767 - backOf r f)) (Below (backOf r f - (r + 32767)))) ≤ r + 32767
-unfolding numberIn
-widened-high r f true = omega arith
-widened-high r f false = omega arith
-
-pub widened-least : (r f : ℕ) (n : DataNumber) → DataAt n ≡ dataOf (widenOf r f) → n .0 ≤ r + 32767
-unfolding widenOf numberIn
-widened-least r f n h =
-    let e : numberIn (widenOf r f) ≡ n .0 = ap numberIn (data-at (widenOf r f) n h) in
-    omega (arith, widened-high r f (leb (backOf r f) (r + 32767)))
+pub widened-least : (r f : ℕ) (n : DataNumber) → f < 65536 → DataAt n ≡ dataOf (widenOf r f) → n .0 ≤ r + 32767
+widened-least r f n l h =
+    let near : Near r f (At (n .0)) = subst (Near r f) (data-is (DataAt n) (widenOf r f) h) (widen-near r f l) in
+    near .1
 
 module _ (w : ℕ) where
   -- an ACK
   pub up-to-early : (firstdata next : ℕ) (a : Widened) (n : DataNumber) → DataAt n ≡ dataOf a → n .0 < firstdata → nothing w 8 ≡ judgeUpTo w firstdata next a
   unfolding judgeUpTo
-  up-to-early firstdata next a n h l = rw (data-at a n h, lt-ltb (n .0) firstdata l) refl
+  up-to-early firstdata next a n h l = rw (data-is (DataAt n) a h, lt-ltb (n .0) firstdata l) refl
 
   pub up-to-late : (firstdata next : ℕ) (a : Widened) (n : DataNumber) → DataAt n ≡ dataOf a → firstdata ≤ n .0 → next ≤ n .0 → nothing w 8 ≡ judgeUpTo w firstdata next a
   unfolding judgeUpTo
-  up-to-late firstdata next a n h l u = rw (data-at a n h, le-ltb (n .0) firstdata l, le-leb next (n .0) u) refl
+  up-to-late firstdata next a n h l u = rw (data-is (DataAt n) a h, le-ltb (n .0) firstdata l, le-leb next (n .0) u) refl
 
   pub up-to-named : (firstdata next : ℕ) (a : Widened) (n : DataNumber) → DataAt n ≡ dataOf a → firstdata ≤ n .0 → n .0 < next
       → record { answer = 0; flags = replicate w false; upto = n .0 + 1 } ≡ judgeUpTo w firstdata next a
   unfolding judgeUpTo
-  up-to-named firstdata next a n h l u = rw (data-at a n h, le-ltb (n .0) firstdata l, lt-leb next (n .0) u) refl
+  up-to-named firstdata next a n h l u = rw (data-is (DataAt n) a h, le-ltb (n .0) firstdata l, lt-leb next (n .0) u) refl
 
   pub up-to-below : (firstdata next : ℕ) (a : Widened) (m : ℕ) → DataBelow m ≡ dataOf a → nothing w 8 ≡ judgeUpTo w firstdata next a
   unfolding judgeUpTo
-  up-to-below firstdata next a m h = rw (data-below a m h) refl
+  up-to-below firstdata next a m h = rw (data-is (DataBelow m) a h) refl
+
+  pub up-to-unclear : (firstdata next : ℕ) (a : Widened) → DataUnclear ≡ dataOf a → nothing w 8 ≡ judgeUpTo w firstdata next a
+  unfolding judgeUpTo
+  up-to-unclear firstdata next a h = rw (data-is DataUnclear a h) refl
 
   -- a vector
   pub listed-early : (firstdata low next : ℕ) (a : Widened) (v : List ℕ) (n : DataNumber) → DataAt n ≡ dataOf a → n .0 < firstdata → nothing w 8 ≡ judgeListed w firstdata low next a v
   unfolding judgeListed
-  listed-early firstdata low next a v n h l = rw (data-at a n h, lt-ltb (n .0) firstdata l) refl
+  listed-early firstdata low next a v n h l = rw (data-is (DataAt n) a h, lt-ltb (n .0) firstdata l) refl
 
   pub listed-never : (firstdata low next : ℕ) (a : Widened) (v : List ℕ) (n : DataNumber) (x : Walked) → DataAt n ≡ dataOf a → firstdata ≤ n .0
       → x ≡ walkOf w (statesOf v) (n .0) next low (replicate w false) → x .never ≡ true → nothing w 8 ≡ judgeListed w firstdata low next a v
   unfolding judgeListed fromWalk
-  listed-never firstdata low next a v n x h l e t = rw (data-at a n h, le-ltb (n .0) firstdata l, ← e, t) refl
+  listed-never firstdata low next a v n x h l e t = rw (data-is (DataAt n) a h, le-ltb (n .0) firstdata l, ← e, t) refl
 
   pub listed-named : (firstdata low next : ℕ) (a : Widened) (v : List ℕ) (n : DataNumber) (x : Walked) → DataAt n ≡ dataOf a → firstdata ≤ n .0
       → x ≡ walkOf w (statesOf v) (n .0) next low (replicate w false) → x .never ≡ false
       → record { answer = 0; flags = x .flags; upto = 0 } ≡ judgeListed w firstdata low next a v
   unfolding judgeListed fromWalk
-  listed-named firstdata low next a v n x h l e t = rw (data-at a n h, le-ltb (n .0) firstdata l, ← e, t) refl
+  listed-named firstdata low next a v n x h l e t = rw (data-is (DataAt n) a h, le-ltb (n .0) firstdata l, ← e, t) refl
 
   pub listed-below : (firstdata low next : ℕ) (a : Widened) (v : List ℕ) (m : ℕ) → DataBelow m ≡ dataOf a → nothing w 8 ≡ judgeListed w firstdata low next a v
   unfolding judgeListed
-  listed-below firstdata low next a v m h = rw (data-below a m h) refl
+  listed-below firstdata low next a v m h = rw (data-is (DataBelow m) a h) refl
+
+  pub listed-unclear : (firstdata low next : ℕ) (a : Widened) (v : List ℕ) → DataUnclear ≡ dataOf a → nothing w 8 ≡ judgeListed w firstdata low next a v
+  unfolding judgeListed
+  listed-unclear firstdata low next a v h = rw (data-is DataUnclear a h) refl
 
   -- a judged acknowledgement, applied
   applied-not : (s : Sender) (j : Judged) → (j .answer ≡ 0 → ⊥) → s ≡ appliedOf w s j

@@ -21,7 +21,7 @@ use Rattle.wire.specs.Same.{codedIn}
 use Rattle.wire.specs.Round.Found.{Found, found, read-found}
 use Rattle.wire.specs.Round.Framing.{swapped-length}
 use Rattle.numbers.specs.declared.Widened.{Widened}
-use Rattle.numbers.specs.declared.Widened.the-variants.{At, Below}
+use Rattle.numbers.specs.declared.Widened.the-variants.{At, Below, Unclear}
 use Rattle.vector.specs.Says.{statesOf, names}
 use Rattle.window.specs.Places.{always}
 use Rattle.sender.specs.declared.Sender.{Sender}
@@ -75,6 +75,7 @@ module _ (w : ℕ) where
   up-to-right : (s : Sender) (a : Widened) → Right s (upTo a) (judgeUpTo w (s .firstdata .0) (s .next .0) a)
   unfolding toldAnswer toldOf toldNames appliedOf judgeUpTo acknowledgedOf first
   up-to-right s (Below m) = record { answer = refl; applied = refl }
+  up-to-right s Unclear = record { answer = refl; applied = refl }
   up-to-right s (At m) =
       record {
         answer = two-answers (ltb m (s .firstdata .0)) (leb (s .next .0) m) (record { answer = 0; flags = replicate w false; upto = m + 1 }) refl;
@@ -95,6 +96,7 @@ module _ (w : ℕ) where
   listed-right : (s : Sender) (a : Widened) (v : List ℕ) → consistentOf w w s ≡ true → Right s (listed a v) (judgeListed w (s .firstdata .0) (s .low .0) (s .next .0) a v)
   unfolding toldAnswer toldOf toldNames appliedOf judgeListed fromWalk acknowledgedOf first
   listed-right s (Below m) v h = record { answer = refl; applied = refl }
+  listed-right s Unclear v h = record { answer = refl; applied = refl }
   listed-right s (At m) v h =
       let x = walkOf w (statesOf v) m (s .next .0) (s .low .0) (replicate w false) in
       let e = walk-never w (statesOf v) m (s .next .0) (s .low .0) (replicate w false) in

@@ -8,7 +8,7 @@ use borrow.Author.Tests.{eq-eqb}
 use lib.ListN.{getD, set, replicate}
 use lib.Dec.{leb, ltb, eqb}
 use Rattle.numbers.specs.declared.Widened.{Widened}
-use Rattle.numbers.specs.declared.Widened.the-variants.{At, Below}
+use Rattle.numbers.specs.declared.Widened.the-variants.{At, Below, Unclear}
 use Rattle.vector.specs.Says.{statesOf}
 use Rattle.sender.specs.declared.Sender.{Sender}
 use Rattle.acknowledging.specs.declared.Walked.{Walked}
@@ -34,6 +34,7 @@ judgeUpTo w firstdata next (At n) =
     cond (ltb n firstdata) (nothing w 8)
     (cond (leb next n) (nothing w 8) (record { answer = 0; flags = replicate w false; upto = n + 1 }))
 judgeUpTo w firstdata next (Below m) = nothing w 8
+judgeUpTo w firstdata next Unclear = nothing w 8
 
 -- what a vector names
 unfoldable pub fromWalk : ℕ → Walked → Judged
@@ -43,6 +44,7 @@ unfoldable pub judgeListed : ℕ → ℕ → ℕ → ℕ → Widened → List �
 judgeListed w firstdata low next (At n) v =
     cond (ltb n firstdata) (nothing w 8) (fromWalk w (walkOf w (statesOf v) n next low (replicate w false)))
 judgeListed w firstdata low next (Below m) v = nothing w 8
+judgeListed w firstdata low next Unclear v = nothing w 8
 
 -- the record after a judged acknowledgement
 unfoldable pub appliedOf : ℕ → Sender → Judged → Sender

@@ -134,6 +134,11 @@ fn judge_up_to(firstdata: u64, next: DataNumber, field: u16) -> Judged
             flags: clear,
             upto: 0,
         },
+        WidenedData::Unclear => Judged {
+            answer: 8,
+            flags: clear,
+            upto: 0,
+        },
     }
 }
 
@@ -176,6 +181,11 @@ fn judge_listed(
             }
         }
         WidenedData::Below(_) => Judged {
+            answer: 8,
+            flags: clear,
+            upto: 0,
+        },
+        WidenedData::Unclear => Judged {
             answer: 8,
             flags: clear,
             upto: 0,

@@ -6,7 +6,7 @@ use mathlib.Core.Path.{_≡_, refl}
 use lib.ListN.{length, replicate}
 use Rattle.common.specs.Order.{first}
 use Rattle.numbers.specs.declared.Widened.{Widened}
-use Rattle.numbers.specs.declared.Widened.the-variants.{At, Below}
+use Rattle.numbers.specs.declared.Widened.the-variants.{At, Below, Unclear}
 use Rattle.numbers.specs.Widen.{widenOf, outOf}
 use Rattle.numbers.specs.Age.{ageOf, reaches}
 use Rattle.vector.specs.Says.{saysOf, bitsOf, statesIn, statesOf, names}
@@ -92,8 +92,8 @@ cases =
     ∷ coding 10 (18 ∷ []) (0x88 ∷ 0x01 ∷ [])
     -- P7
     ∷ coding 10 (numbers 11 30) (0x7e ∷ 0xd8 ∷ [])
-    -- P8
-    ∷ widening 70000 37232 (At 37232)
+    -- P8, as document 02 changes it (W7)
+    ∷ widening 70000 37232 Unclear
     -- P9
     ∷ widening 70000 37233 (At 37233)
     -- P10

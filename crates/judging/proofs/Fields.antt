@@ -5,11 +5,11 @@ use mathlib.Core.Option.{Option, none, some}
 use mathlib.Core.Path.{_≡_, refl, sym, _∙_, ap}
 use lib.Dec.{ltb}
 use Rattle.numbers.specs.declared.Widened.{Widened}
-use Rattle.numbers.specs.declared.Widened.the-variants.{At as AtNumber, Below}
+use Rattle.numbers.specs.declared.Widened.the-variants.{At as AtNumber, Below, Unclear}
 use Rattle.numbers.specs.declared.WidenedData.{WidenedData}
-use Rattle.numbers.specs.declared.WidenedData.the-variants.{At as DataAt, Below as DataBelow}
+use Rattle.numbers.specs.declared.WidenedData.the-variants.{At as DataAt}
 use Rattle.numbers.specs.declared.WidenedChannel.{WidenedChannel}
-use Rattle.numbers.specs.declared.WidenedChannel.the-variants.{At as ChannelAt, Below as ChannelBelow}
+use Rattle.numbers.specs.declared.WidenedChannel.the-variants.{At as ChannelAt}
 use Rattle.numbers.specs.Widen.{widenOf, outOf, dataOf, channelOf, fromData, fromChannel, from-data, from-channel}
 use Rattle.judging.specs.declared.FoundData.{FoundData}
 use Rattle.judging.specs.declared.FoundData.the-variants.{Out, At}
@@ -22,12 +22,10 @@ use Rattle.judging.specs.Judge.{foundData, foundChannel, waivedAt}
 place-out : (first : ℕ) (x : Widened) → outOf first x ≡ true → inPlace first x ≡ none
 place-out first (AtNumber n) h = rw h refl
 place-out first (Below m) h = refl
+place-out first Unclear h = refl
 
 place-at : (first : ℕ) (x : Widened) (n : ℕ) → outOf first x ≡ false → x ≡ AtNumber n → inPlace first x ≡ some n
 place-at first x n h e = let g : ltb n first ≡ false = ap (outOf first) (sym e) ∙ h in rw (e, g) refl
-
-place-below : (first : ℕ) (x : Widened) (m : ℕ) → x ≡ Below m → inPlace first x ≡ none
-place-below first x m e = rw e refl
 
 module _ (base first f : ℕ) (x : WidenedData) (b : Bool) (wide : x ≡ dataOf (widenOf base f)) (out : b ≡ outOf first (fromData x)) where
   data-is : fromData x ≡ widenOf base f
@@ -44,9 +42,10 @@ module _ (base first f : ℕ) (x : WidenedData) (b : Bool) (wide : x ≡ dataOf 
   unfolding foundData
   data-at n h e = ap foundData (sym (place-at first _ n (data-judged false h) (sym data-is ∙ ap fromData e)))
 
-  pub data-below : (m : ℕ) → x ≡ DataBelow m → Out ≡ foundData (inPlace first (widenOf base f))
+  -- a case in which no number stands
+  pub data-no-number : (y : WidenedData) → x ≡ y → none ≡ inPlace first (fromData y) → Out ≡ foundData (inPlace first (widenOf base f))
   unfolding foundData
-  data-below m e = ap foundData (sym (place-below first _ m (sym data-is ∙ ap fromData e)))
+  data-no-number y e h = ap foundData (h ∙ ap (inPlace first) (ap fromData (sym e) ∙ data-is))
 
 module _ (due first f : ℕ) (x : WidenedChannel) (b : Bool) (wide : x ≡ channelOf (widenOf due f)) (out : b ≡ outOf first (fromChannel x)) where
   channel-is : fromChannel x ≡ widenOf due f
@@ -63,9 +62,9 @@ module _ (due first f : ℕ) (x : WidenedChannel) (b : Bool) (wide : x ≡ chann
   unfolding foundChannel
   channel-at n h e = ap foundChannel (sym (place-at first _ n (channel-judged false h) (sym channel-is ∙ ap fromChannel e)))
 
-  pub channel-below : (m : ℕ) → x ≡ ChannelBelow m → ChannelOut ≡ foundChannel (inPlace first (widenOf due f))
+  pub channel-no-number : (y : WidenedChannel) → x ≡ y → none ≡ inPlace first (fromChannel y) → ChannelOut ≡ foundChannel (inPlace first (widenOf due f))
   unfolding foundChannel
-  channel-below m e = ap foundChannel (sym (place-below first _ m (sym channel-is ∙ ap fromChannel e)))
+  channel-no-number y e h = ap foundChannel (h ∙ ap (inPlace first) (ap fromChannel (sym e) ∙ channel-is))
 
 -- THE NUMBER BELOW WHICH ALL IS WAIVED
 

@@ -53,6 +53,7 @@ fn data_number(base: DataNumber, first: DataNumber, field: u16) -> FoundData
     match wide {
         WidenedData::At(n) => FoundData::At(n),
         WidenedData::Below(_) => FoundData::Out,
+        WidenedData::Unclear => FoundData::Out,
     }
 }
 
@@ -68,6 +69,7 @@ fn channel_number(due: ChannelNumber, first: ChannelNumber, field: u16) -> Found
     match wide {
         WidenedChannel::At(c) => FoundChannel::At(c),
         WidenedChannel::Below(_) => FoundChannel::Out,
+        WidenedChannel::Unclear => FoundChannel::Out,
     }
 }
 

@@ -2,26 +2,29 @@
 use Prim.Native.Nat.{ℕ, _+_, _-_, _%_, _≤_, _<_}
 use mathlib.Core.Path.{_≡_, refl, _∙_, ap}
 use native.Mathlib.Omega.{arith}
-use borrow.Author.Tests.{le-leb, lt-leb, lt-ltb, le-ltb}
+use borrow.Author.Tests.{le-leb, lt-leb, lt-ltb, le-ltb, ne-eqb}
 use Rattle.numbers.specs.declared.Widened.the-variants.{At, Below}
 use Rattle.numbers.specs.Widen.{backOf, widenOf}
 use Rattle.numbers.specs.Age.{sinceOf, ageOf}
 
-pub widen-at : (r f top back : ℕ) → top ≡ r + 32767 → back ≡ (top + 65536 - f) % 65536 → back ≤ top
-    → At (top - back) ≡ widenOf r f
-unfolding widenOf
-widen-at r f top back et eb h =
-    let b : back ≡ backOf r f = eb ∙ ap (λ (t : ℕ). (t + 65536 - f) % 65536) et in
-    let le : backOf r f ≤ r + 32767 = omega arith in
-    rw (le-leb (backOf r f) (r + 32767) le, et, b) refl
+-- top and back as the code has them, a field not half a lap away
+module _ (r f top back : ℕ) (et : top ≡ r + 32767) (eb : back ≡ (top + 65536 - f) % 65536) (clear : (r + 32768) % 65536 ≡ f → ⊥) where
+  back-is : back ≡ backOf r f
+  back-is = eb ∙ ap (λ (t : ℕ). (t + 65536 - f) % 65536) et
 
-pub widen-below : (r f top back : ℕ) → top ≡ r + 32767 → back ≡ (top + 65536 - f) % 65536 → top < back
-    → Below (back - top) ≡ widenOf r f
-unfolding widenOf
-widen-below r f top back et eb h =
-    let b : back ≡ backOf r f = eb ∙ ap (λ (t : ℕ). (t + 65536 - f) % 65536) et in
-    let lt : r + 32767 < backOf r f = omega arith in
-    rw (lt-leb (backOf r f) (r + 32767) lt, et, b) refl
+  pub widen-at : back ≤ top → At (top - back) ≡ widenOf r f
+  unfolding widenOf
+  widen-at h =
+      let b : back ≡ backOf r f = back-is in
+      let le : backOf r f ≤ r + 32767 = omega arith in
+      rw (ne-eqb ((r + 32768) % 65536) f clear, le-leb (backOf r f) (r + 32767) le, et, b) refl
+
+  pub widen-below : top < back → Below (back - top) ≡ widenOf r f
+  unfolding widenOf
+  widen-below h =
+      let b : back ≡ backOf r f = back-is in
+      let lt : r + 32767 < backOf r f = omega arith in
+      rw (ne-eqb ((r + 32768) % 65536) f clear, lt-leb (backOf r f) (r + 32767) lt, et, b) refl
 
 -- what a wrapping difference ensures fixes it
 pub since-only : (p now sent : ℕ) → p < 4294967296 → now < 4294967296 → sent < 4294967296

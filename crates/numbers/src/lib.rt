@@ -21,6 +21,8 @@ pub enum Widened {
     At(u64),
     // The number that lies so far below 0.
     Below(u16),
+    // None: the field lies half a lap away, as far on the one side as on the other.
+    Unclear,
 }
 
 // A full data number.
@@ -35,21 +37,27 @@ pub struct ChannelNumber(pub u64);
 pub enum WidenedData {
     At(DataNumber),
     Below(u16),
+    Unclear,
 }
 
 // What a field widens to as a channel number.
 pub enum WidenedChannel {
     At(ChannelNumber),
     Below(u16),
+    Unclear,
 }
 
-// The whole number congruent to field modulo 65,536 that lies from reference - 32,768 to reference + 32,767.
+// The whole number congruent to field modulo 65,536 that lies from reference - 32,767 to reference + 32,767, if there is one.
 fn widen(reference: u64, field: u16) -> Widened
     requires { ⌜ reference ≤ pastHighest ⌝ }
     ensures { λ r. ⌜ r ≡ widenOf reference field ⌝ }
 {
     let top = reference + DataNumber::HALF - 1;
     let back = (top + DataNumber::LAP - field as u64) % DataNumber::LAP;
+    // Half a lap below the reference, and so half a lap above it too.
+    if back == DataNumber::LAP - 1 {
+        return Widened::Unclear;
+    }
     if back <= top {
         Widened::At(top - back)
     } else {
@@ -60,7 +68,7 @@ fn widen(reference: u64, field: u16) -> Widened
 impl DataNumber {
     // How many numbers a window spans.
     pub const WINDOW: u64 = 32;
-    // How far a number may lie below the reference that its field is widened against.
+    // How far from its reference a field is unclear: it lies as far above as below.
     pub const HALF: u64 = 32768;
     // How far apart two numbers of one field lie.
     pub const LAP: u64 = 2 * Self::HALF;
@@ -73,6 +81,7 @@ impl DataNumber {
         match widen(reference.0, field) {
             Widened::At(n) => WidenedData::At(DataNumber(n)),
             Widened::Below(m) => WidenedData::Below(m),
+            Widened::Unclear => WidenedData::Unclear,
         }
     }
 }
@@ -80,7 +89,7 @@ impl DataNumber {
 impl ChannelNumber {
     // How many numbers a window spans.
     pub const WINDOW: u64 = DataNumber::WINDOW;
-    // How far a number may lie below the reference that its field is widened against.
+    // How far from its reference a field is unclear: it lies as far above as below.
     pub const HALF: u64 = DataNumber::HALF;
     // How far apart two numbers of one field lie.
     pub const LAP: u64 = DataNumber::LAP;
@@ -93,30 +102,33 @@ impl ChannelNumber {
         match widen(reference.0, field) {
             Widened::At(n) => WidenedChannel::At(ChannelNumber(n)),
             Widened::Below(m) => WidenedChannel::Below(m),
+            Widened::Unclear => WidenedChannel::Unclear,
         }
     }
 }
 
 impl WidenedData {
-    // Does the number lie below the first of its kind?
+    // Does the number lie below the first of its kind, or is it unclear?
     pub fn out_of_place(self, first: DataNumber) -> bool
         ensures { λ r. ⌜ r ≡ outOf (first .0) (fromData self) ⌝ }
     {
         match self {
             WidenedData::At(n) => n.0 < first.0,
             WidenedData::Below(_) => true,
+            WidenedData::Unclear => true,
         }
     }
 }
 
 impl WidenedChannel {
-    // Does the number lie below the first of its kind?
+    // Does the number lie below the first of its kind, or is it unclear?
     pub fn out_of_place(self, first: ChannelNumber) -> bool
         ensures { λ r. ⌜ r ≡ outOf (first .0) (fromChannel self) ⌝ }
     {
         match self {
             WidenedChannel::At(n) => n.0 < first.0,
             WidenedChannel::Below(_) => true,
+            WidenedChannel::Unclear => true,
         }
     }
 }

@@ -88,7 +88,7 @@ pub record Vectored (w : ℕ) (r : Receiver) (bytes : List ℕ) : Type 0 where
   pub values : packet .values ≡ keptOf (vectorValues w r)
   pub named : (n : ℕ)
       → names (codedIn bytes packet) (r .base .0) n ≡ cond (leb (r .base .0) n) (cond (ltb n (r .end .0)) (isMarked (markAt w r n)) false) false
-  pub widens : (reference : ℕ) → reference ≤ r .base .0 + 32768 → r .base .0 ≤ reference + 32767
+  pub widens : (reference : ℕ) → reference ≤ r .base .0 + 32767 → r .base .0 ≤ reference + 32767
       → widenOf reference (packet .values .vector .base) ≡ At (r .base .0)
 
 says-vectored : (w : ℕ) (r : Receiver) (bytes : List ℕ) → Says (vectorValues w r) [] (vectorOf (statesOf w r)) [] bytes → Vectored w r bytes

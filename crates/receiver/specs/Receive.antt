@@ -5,7 +5,7 @@ use mathlib.Core.Option.{Option, none, some}
 use mathlib.Core.List.{List}
 use lib.ListN.{length}
 use Rattle.numbers.specs.declared.Widened.{Widened}
-use Rattle.numbers.specs.declared.Widened.the-variants.{At, Below}
+use Rattle.numbers.specs.declared.Widened.the-variants.{At, Below, Unclear}
 use Rattle.numbers.specs.Widen.{widenOf, outOf}
 use Rattle.wire.specs.declared.Values.{Values}
 use Rattle.wire.specs.declared.Packet.{Packet as WirePacket}
@@ -19,10 +19,11 @@ use Rattle.receiver.specs.Record.{State}
 use Rattle.receiver.specs.Consistent.{soundOf}
 use Rattle.receiver.specs.Packet.{Packet, Arrival, nothing, waiver, content, arrivalAnswer, arrivalOf}
 
--- the number that a field stands for; "A result below the first number of its kind is out of place."
+-- the number that a field stands for; "A result below the first number of its kind is out of place", and so is an unclear one
 abbrev pub inPlace : ℕ → Widened → Option ℕ
 inPlace first (At n) = cond (outOf first (At n)) none (some n)
 inPlace first (Below m) = none
+inPlace first Unclear = none
 
 unfoldable pub onSome : {A B : Type 0} → Option A → (A → Option B) → Option B
 onSome none f = none

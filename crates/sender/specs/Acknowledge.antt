@@ -6,7 +6,7 @@ use mathlib.Core.List.{List, [], _∷_}
 use lib.Dec.{leb, ltb, eqb}
 use Rattle.common.specs.Order.{test, first}
 use Rattle.numbers.specs.declared.Widened.{Widened}
-use Rattle.numbers.specs.declared.Widened.the-variants.{At, Below}
+use Rattle.numbers.specs.declared.Widened.the-variants.{At, Below, Unclear}
 use Rattle.numbers.specs.Widen.{widenOf}
 use Rattle.vector.specs.Says.{statesOf, names}
 use Rattle.wire.specs.declared.Packet.{Packet}
@@ -37,14 +37,16 @@ pub data Told : Type 0 where
   upTo : Widened → Told
   listed : Widened → List ℕ → Told
 
--- "a named number is not below next, or SeqNum or BaseSeqNum is below the first"
+-- "a named number is not below next, or SeqNum or BaseSeqNum is below the first"; and where SeqNum or BaseSeqNum is unclear (document 02, W7)
 abbrev pub upToAnswer : ℕ → ℕ → Widened → ℕ
 upToAnswer firstdata next (At n) = first (test (ltb n firstdata) 8 ∷ test (leb next n) 8 ∷ [])
 upToAnswer firstdata next (Below m) = 8
+upToAnswer firstdata next Unclear = 8
 
 abbrev pub listedAnswer : ℕ → ℕ → Widened → List ℕ → ℕ
 listedAnswer firstdata next (At n) v = first (test (ltb n firstdata) 8 ∷ test (namesUnsent (statesOf v) n next) 8 ∷ [])
 listedAnswer firstdata next (Below m) v = 8
+listedAnswer firstdata next Unclear v = 8
 
 unfoldable pub toldAnswer : Sender → Told → ℕ
 toldAnswer s silent = 0
@@ -55,10 +57,12 @@ toldAnswer s (listed a v) = listedAnswer (s .firstdata .0) (s .next .0) a v
 abbrev pub namesUpTo : Widened → ℕ → Bool
 namesUpTo (At m) n = leb n m
 namesUpTo (Below m) n = false
+namesUpTo Unclear n = false
 
 abbrev pub namesListed : Widened → List ℕ → ℕ → Bool
 namesListed (At m) v n = names v m n
 namesListed (Below m) v n = false
+namesListed Unclear v n = false
 
 unfoldable pub toldNames : Told → ℕ → Bool
 toldNames silent n = false

@@ -162,6 +162,7 @@ fn naming_some(rule: &mut Rule, s: &Sender) -> (Values, Vec<u8>, Vec<u8>) {
     if rule.one_in(3) {
         let n = match rule.below(16) {
             0 => s.next + rule.below(4),
+            1 if rule.one_in(2) => half_away(rule, s.next),
             1 => rule.next(),
             2..=5 => (s.low + rule.below(range + 1)).saturating_sub(1),
             _ => (s.low + rule.below(3.min(range + 1))).saturating_sub(1),
@@ -178,6 +179,7 @@ fn naming_some(rule: &mut Rule, s: &Sender) -> (Values, Vec<u8>, Vec<u8>) {
         return (values, additions, Vec::new());
     }
     let base = match rule.below(32) {
+        0 if rule.one_in(2) => half_away(rule, s.next),
         0 => rule.next(),
         1..=8 => s.low.saturating_sub(rule.below(20)),
         _ => s.low,
@@ -217,12 +219,14 @@ fn naming(flags: u16, n: u64) -> Values {
 fn arriving(rule: &mut Rule, r: &Receiver, numbers: u64, channels: u64) -> Values {
     let number = match rule.below(40) {
         0..=3 => r.base.saturating_sub(rule.below(40)),
+        4 if rule.one_in(4) => half_away(rule, r.base),
         4 => r.base + WINDOW + rule.below(4),
         5..=8 => r.base + rule.below(WINDOW),
         _ => r.base + rule.below(numbers),
     };
     let channel = match rule.below(40) {
         0..=3 => r.due.saturating_sub(rule.below(40)),
+        4 if rule.one_in(4) => half_away(rule, r.due),
         4 => r.due + WINDOW + rule.below(4),
         5..=8 => r.due + rule.below(WINDOW),
         _ => r.due + rule.below(channels),
@@ -250,9 +254,18 @@ fn besides(rule: &mut Rule, mut values: Values, r: &Receiver) -> Values {
     }
     if values.flags & AOA == 0 && rule.one_in(16) {
         values.flags |= AOA;
-        values.aoa = field(r.base.saturating_sub(rule.below(8)));
+        values.aoa = field(if rule.one_in(16) {
+            half_away(rule, r.base)
+        } else {
+            r.base.saturating_sub(rule.below(8))
+        });
     }
     values
+}
+
+/// A number half a lap above a reference, or up to two more or less; its field lies as near to half a lap below.
+fn half_away(rule: &mut Rule, reference: u64) -> u64 {
+    reference + rule.from(32_766, 32_770)
 }
 
 /// The 16 bits of a number that stand on the wire.

@@ -1,7 +1,7 @@
 -- `acknowledging::judge_up_to` meets its contract: each way out is an instance of a law.
 use mathlib.Core.Path.{sym, _∙_}
 use borrow.Author.Needs.{needs}
-use Rattle.acknowledging.proofs.Acked.{up-to-early, up-to-late, up-to-named, up-to-below}
+use Rattle.acknowledging.proofs.Acked.{up-to-early, up-to-late, up-to-named, up-to-below, up-to-unclear}
 use Rattle.acknowledging.proofs.judge_up_to.Statement.{statement}
 use Rattle.acknowledging.proofs.judge_up_to.Tie as tie
 
@@ -26,10 +26,16 @@ enum-told c = search needs
 returns-3 : tie.Need-returns-3
 returns-3 c = up-to-named 32 _ _ _ _ (sym (c .before .before .before .before .before .before .before .n .given .1) ∙ c .before .before .before .before .before .before .before .before .before .widen .ensures) (c .before .before .before .before .if1 .left) (c .before .if2 .left)
 
+enum-told-2 : tie.Need-enum-told-2
+enum-told-2 c = search needs
+
 returns-4 : tie.Need-returns-4
 returns-4 c = up-to-below 32 _ _ _ _ (sym (c .enum-told .given .1) ∙ c .before .before .widen .ensures)
+
+returns-5 : tie.Need-returns-5
+returns-5 c = up-to-unclear 32 _ _ _ (sym (c .enum-told2 .given .1) ∙ c .before .before .widen .ensures)
 
 pub judge-up-to-spec : {M : Type 1} → statement M
 judge-up-to-spec =
     tie.close
-    (tie.spec widen-requires enum-known-n returns returns-2 add-t9 enum-told returns-3 returns-4)
+    (tie.spec widen-requires enum-known-n returns returns-2 add-t9 enum-told enum-told-2 returns-3 returns-4 returns-5)

@@ -1,5 +1,6 @@
 -- `judging::data_number` meets its contract: each way out is an instance of a law of Fields.
-use Rattle.judging.proofs.Fields.{data-out, data-at, data-below}
+use Rattle.judging.proofs.Fields.{data-out, data-at, data-no-number}
+use mathlib.Core.Path.{refl}
 use borrow.Author.Needs.{needs}
 use Rattle.judging.proofs.data_number.Statement.{statement}
 use Rattle.judging.proofs.data_number.Tie as tie
@@ -19,13 +20,19 @@ enum-known-wide c = search needs
 enum-told : tie.Need-enum-told
 enum-told c = search needs
 
+enum-told-2 : tie.Need-enum-told-2
+enum-told-2 c = search needs
+
 returns-2 : tie.Need-returns-2
 returns-2 c =
     data-at _ _ _ _ _ (c .before .before .before .before .before .widen .ensures) (c .before .before .before .before .out-of-place .ensures) _
     (c .before .before .before .if1 .left) (c .before .wide .given .1)
 
 returns-3 : tie.Need-returns-3
-returns-3 c = data-below _ _ _ _ _ (c .before .before .before .before .widen .ensures) (c .before .before .before .out-of-place .ensures) _ (c .enum-told .given .1)
+returns-3 c = data-no-number _ _ _ _ _ (c .before .before .before .before .widen .ensures) (c .before .before .before .out-of-place .ensures) _ (c .enum-told .given .1) refl
+
+returns-4 : tie.Need-returns-4
+returns-4 c = data-no-number _ _ _ _ _ (c .before .before .before .before .widen .ensures) (c .before .before .before .out-of-place .ensures) _ (c .enum-told2 .given .1) refl
 
 pub data-number-spec : {M : Type 1} → statement M
 data-number-spec =
@@ -36,5 +43,7 @@ data-number-spec =
     returns
     enum-known-wide
     enum-told
+    enum-told-2
     returns-2
-    returns-3)
+    returns-3
+    returns-4)

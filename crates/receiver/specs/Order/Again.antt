@@ -8,7 +8,7 @@ use native.Mathlib.Omega.{arith}
 use lib.Dec.{ltb}
 use borrow.Author.Tests.{le-ltb, ltb-false}
 use Rattle.numbers.specs.declared.Widened.{Widened}
-use Rattle.numbers.specs.declared.Widened.the-variants.{At, Below}
+use Rattle.numbers.specs.declared.Widened.the-variants.{At, Below, Unclear}
 use Rattle.numbers.specs.Widen.{widenOf}
 use Rattle.numbers.specs.Nearest.{Near, widen-near, widen-only}
 use Rattle.wire.specs.declared.Values.{Values}
@@ -60,8 +60,9 @@ in-place first (At m) n e = go (ltb m first) refl e
     go true t q = absurd (let z : _≡_ {A = ℕ} 0 1 = cc in omega arith)
     go false t q = let k : m ≡ n = cc in (ap At k, omega (arith, ltb-false m first t))
 in-place first (Below m) n e = absurd (let z : _≡_ {A = ℕ} 0 1 = cc in omega arith)
+in-place first Unclear n e = absurd (let z : _≡_ {A = ℕ} 0 1 = cc in omega arith)
 
-number-again : (first r q f n : ℕ) → f < 65536 → inPlace first (widenOf r f) ≡ some n → q ≤ n + 32768 → n ≤ q + 32767
+number-again : (first r q f n : ℕ) → f < 65536 → inPlace first (widenOf r f) ≡ some n → q ≤ n + 32767 → n ≤ q + 32767
     → inPlace first (widenOf q f) ≡ some n
 number-again first r q f n h e lo hi =
     let (at, from) = in-place first (widenOf r f) n e in

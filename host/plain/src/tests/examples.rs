@@ -56,10 +56,11 @@ fn p5_p6_p7_vectors_written() {
 
 #[test]
 fn p8_to_p11_widening() {
-    assert_eq!(widen(70_000, 37_232), 37_232);
-    assert_eq!(widen(70_000, 37_233), 37_233);
-    assert_eq!(widen(70_000, 37_231), 102_767);
-    assert_eq!(widen(5, 65_535), -1);
+    assert_eq!(widen(70_000, 37_232), None);
+    assert_eq!(widen(70_000, 37_233), Some(37_233));
+    assert_eq!(widen(70_000, 37_231), Some(102_767));
+    assert_eq!(widen(5, 65_535), Some(-1));
+    assert_eq!(widen(5, 32_773), None);
     let mut node = Node::open(5, 5, 300);
     assert_eq!(node.receive(&data(None, 65_535, 5, b"")), 7);
     assert_eq!(node.receive(&data(None, 5, 65_535, b"")), 7);

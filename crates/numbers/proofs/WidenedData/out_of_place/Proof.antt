@@ -12,11 +12,17 @@ enum-known-self c = search needs
 enum-told : tie.Need-enum-told
 enum-told c = search needs
 
+enum-told-2 : tie.Need-enum-told-2
+enum-told-2 c = search needs
+
 returns : tie.Need-returns
 returns c = ap (λ (w : WidenedData). outOf (c .before .before .before .before .before .args .first .0) (fromData w)) (sym (c .before .before .before .self .given .1))
 
 returns-2 : tie.Need-returns-2
 returns-2 c = search needs
 
+returns-3 : tie.Need-returns-3
+returns-3 c = search needs
+
 pub out-of-place-spec : {M : Type 1} → statement M
-out-of-place-spec = tie.close (tie.spec enum-known-self enum-told returns returns-2)
+out-of-place-spec = tie.close (tie.spec enum-known-self enum-told enum-told-2 returns returns-2 returns-3)
