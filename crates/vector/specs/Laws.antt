@@ -9,12 +9,15 @@ use native.Mathlib.Omega.{arith}
 use lib.ListN.{length, getD, take, drop, replicate, length-replicate, getD-replicate, List·getD-eq-default, length-drop}
 use lib.Seq.{drop-cons, take-nil}
 use lib.Dec.{eqb, ltb}
-use lib.Pow.{shr-shr, pow-pos}
+use lib.Arith.{lt-one}
+use lib.Pow.{shr-shr, shr-lt, pow-pos}
+use lib.Count.{ones, ones-step}
 use borrow.Author.Tests.{lt-ltb, le-ltb, ltb-true, eq-eqb, ne-eqb}
 use Rattle.common.specs.Order.{test, first, first-here, first-skip, first-none}
 use Rattle.common.specs.Put.{putOf}
 use Rattle.common.specs.Answer.{writtenOf, leftOf, roomAnswer}
 use Rattle.common.specs.declared.Written.the-variants.{Refused, Wrote}
+use Rattle.vector.specs.declared.Saying.{Saying}
 use Rattle.vector.specs.declared.Saying.the-variants.{Map, Run}
 use Rattle.vector.specs.Says.{bitOf, saysOf, bitsOf, statesIn, countOf, receivedIn}
 use Rattle.vector.specs.Rule.{one, alike, runOf, mapOf, byteOf, coversOf, bytesBy, vectorOf, answerOf}
@@ -84,9 +87,34 @@ pub missing-run : (b : ℕ) (s : Bool) (n : ℕ) → Run s n ≡ saysOf b → s 
 unfolding receivedIn statesIn
 missing-run b s n e t = rw (← e, t) (sym (count-none n))
 
-pub received-map : (b m : ℕ) → Map m ≡ saysOf b → countOf (bitsOf 7 m) ≡ receivedIn b
+-- a number below 2 ^ k has as many ones as its k bits have received states
+ones-count : (k m : ℕ) → m < 2 ^ k → ones m ≡ countOf (bitsOf k m)
+unfolding ones bitsOf countOf
+ones-count zero m h = ap ones (lt-one h)
+ones-count (suc k) m h =
+    ones-step m ∙ ap (λ (n : ℕ). m % 2 + n) (ones-count k (m / 2) (shr-lt k 1 (rw add-one h))) ∙ go (m % 2) (omega arith)
+  where
+    go : (d : ℕ) → d < 2 → d + countOf (bitsOf k (m / 2)) ≡ cond (eqb d 1) (suc (countOf (bitsOf k (m / 2)))) (countOf (bitsOf k (m / 2)))
+    go zero h = omega arith
+    go (suc zero) h = omega arith
+    go (suc (suc d)) h = absurd (omega arith)
+
+-- a map has seven bits
+map-seven : (b m : ℕ) → Map m ≡ saysOf b → m < 128
+unfolding saysOf
+map-seven b m e = go (bitOf b 7) (ap seven e)
+  where
+    seven : Saying → ℕ
+    seven (Map n) = n
+    seven (Run s n) = 0
+
+    go : (t : Bool) → m ≡ seven (cond t (Run (bitOf b 6) (b % 64)) (Map (b % 128))) → m < 128
+    go true e = omega arith
+    go false e = omega arith
+
+pub received-map : (b m : ℕ) → Map m ≡ saysOf b → ones m ≡ receivedIn b
 unfolding receivedIn statesIn
-received-map b m e = rw (← e) refl
+received-map b m e = rw (← e) (ones-count 7 m (map-seven b m e))
 
 -- THE RUN FROM A PLACE
 

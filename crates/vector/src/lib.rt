@@ -4,6 +4,7 @@ ghost use mathlib.Core.Path.{_≡_};
 ghost use Prim.Native.Nat.{_+_, _<_};
 ghost use mathlib.Core.Bool.{false};
 ghost use lib.ListN.{length, getD};
+ghost use lib.Count.{ones};
 ghost use Rattle.vector.specs.Says.{bitOf, saysOf, statesIn, receivedIn};
 
 // What one byte of a vector says.
@@ -63,22 +64,19 @@ pub fn state(b: u8, i: u8) -> bool
     }
 }
 
-// How many numbers a byte names as received: a map's seven bits in turn.
+// How many bits of b are set, by the processor's own count.
+fn set_bits(b: u8) -> u8
+    ensures { λ r. ⌜ r ≡ ones b ⌝ }
+{
+    u8::count_ones(b) as u8
+}
+
+// How many numbers a byte names as received: of a map, the bits that are set; of a run, all or none.
 pub fn received(b: u8) -> u8
     ensures { λ r. ⌜ r ≡ receivedIn b ⌝ }
 {
     match says(b) {
-        Saying::Map(m) => {
-            let mut n: u8 = 0;
-            let mut k: u32 = 0;
-            while k < 7 {
-                if bit(m, k) {
-                    n += 1;
-                }
-                k += 1;
-            }
-            n
-        }
+        Saying::Map(m) => set_bits(m),
         Saying::Run(s, n) => {
             if s {
                 return n;
