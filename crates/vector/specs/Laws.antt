@@ -92,12 +92,12 @@ ones-count : (k m : ℕ) → m < 2 ^ k → ones m ≡ countOf (bitsOf k m)
 unfolding ones bitsOf countOf
 ones-count zero m h = ap ones (lt-one h)
 ones-count (suc k) m h =
-    ones-step m ∙ ap (λ (n : ℕ). m % 2 + n) (ones-count k (m / 2) (shr-lt k 1 (rw add-one h))) ∙ go (m % 2) (omega arith)
+    ones-step m ∙ ap (λ (n : ℕ). m % 2 + n) (ones-count k (m / 2) (shr-lt k 1 (rw add-one h))) ∙ digit (m % 2) _ (omega arith)
   where
-    go : (d : ℕ) → d < 2 → d + countOf (bitsOf k (m / 2)) ≡ cond (eqb d 1) (suc (countOf (bitsOf k (m / 2)))) (countOf (bitsOf k (m / 2)))
-    go zero h = omega arith
-    go (suc zero) h = omega arith
-    go (suc (suc d)) h = absurd (omega arith)
+    digit : (d n : ℕ) → d < 2 → d + n ≡ cond (eqb d 1) (suc n) n
+    digit zero n h = omega arith
+    digit (suc zero) n h = omega arith
+    digit (suc (suc d)) n h = absurd (omega arith)
 
 -- a map has seven bits
 map-seven : (b m : ℕ) → Map m ≡ saysOf b → m < 128

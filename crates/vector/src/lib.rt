@@ -64,19 +64,19 @@ pub fn state(b: u8, i: u8) -> bool
     }
 }
 
-// How many bits of b are set, by the processor's own count.
-fn set_bits(b: u8) -> u8
+// How many bits of b are 1, by the processor's own count.
+fn ones(b: u8) -> u8
     ensures { λ r. ⌜ r ≡ ones b ⌝ }
 {
     u8::count_ones(b) as u8
 }
 
-// How many numbers a byte names as received: of a map, the bits that are set; of a run, all or none.
+// How many numbers a byte names as received: of a map, its ones; of a run, all or none.
 pub fn received(b: u8) -> u8
     ensures { λ r. ⌜ r ≡ receivedIn b ⌝ }
 {
     match says(b) {
-        Saying::Map(m) => set_bits(m),
+        Saying::Map(m) => ones(m),
         Saying::Run(s, n) => {
             if s {
                 return n;

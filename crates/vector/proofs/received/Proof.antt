@@ -1,4 +1,4 @@
--- `vector::received` meets its contract: a map by its set bits, a run by its length.
+-- `vector::received` meets its contract: a map by its ones, a run by its length.
 -- Assumes nothing.
 use mathlib.Core.Path.{sym, _∙_}
 use borrow.Author.Needs.{needs}
@@ -12,7 +12,7 @@ returns c =
 
 returns-2 : tie.Need-returns-2
 returns-2 c =
-    c .set-bits .ensures ∙ received-map _ _ (sym (c .before .before .m .given .1) ∙ c .before .before .before .before .says .ensures)
+    c .ones .ensures ∙ received-map _ _ (sym (c .before .before .m .given .1) ∙ c .before .before .before .before .says .ensures)
 
 returns-3 : tie.Need-returns-3
 returns-3 c =
