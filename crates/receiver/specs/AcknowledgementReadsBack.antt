@@ -91,7 +91,7 @@ pub record Vectored (w : ℕ) (r : Receiver) (bytes : List ℕ) : Type 0 where
   pub widens : (reference : ℕ) → reference ≤ r .base .0 + 32767 → r .base .0 ≤ reference + 32767
       → widenOf reference (packet .values .vector .base) ≡ At (r .base .0)
 
-says-vectored : (w : ℕ) (r : Receiver) (bytes : List ℕ) → Says (vectorValues w r) [] (vectorOf (statesOf w r)) [] bytes → Vectored w r bytes
+pub says-vectored : (w : ℕ) (r : Receiver) (bytes : List ℕ) → Says (vectorValues w r) [] (vectorOf (statesOf w r)) [] bytes → Vectored w r bytes
 says-vectored w r bytes k =
     record {
       packet = k .packet;

@@ -9,6 +9,7 @@ pub mod Take
 pub mod Receive
 pub mod Acknowledge
 pub mod AcknowledgementReadsBack
+pub mod WrittenVectorIsShortest
 pub mod Determined
 pub mod History
 pub mod Set

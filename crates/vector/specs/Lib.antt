@@ -4,3 +4,5 @@ pub mod Rule
 pub mod Laws
 pub mod Reading
 pub mod ReadsBack
+pub mod Reach
+pub mod NoVectorIsShorter

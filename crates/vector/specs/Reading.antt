@@ -4,7 +4,7 @@ use mathlib.Core.Bool.{Bool, true, false}
 use mathlib.Core.List.{List, [], _∷_, _++_}
 use mathlib.Core.Path.{_≡_, refl, sym, _∙_, ap}
 use native.Mathlib.Omega.{arith}
-use lib.ListN.{length, getD, take, drop, length-drop, List·getD-append}
+use lib.ListN.{length, getD, take, drop, length-drop, length-append, List·getD-append}
 use lib.Seq.{take-nil, getD-drop, getD-append-add}
 use lib.Dec.{ltb}
 use borrow.Author.Tests.{ltb-true, ltb-false}
@@ -132,3 +132,15 @@ states-back (suc k) (s ∷ ss) h i =
     let l : length (drop c (s ∷ ss)) ≤ k = omega (arith, covers-some s ss, length-drop c (s ∷ ss)) in
     rw (vector-more s ss)
     (join (statesIn (saysOf (byteOf s ss))) (statesOf (vectorOf (drop c (s ∷ ss)))) (s ∷ ss) c (byte-span s ss) (byte-state s ss) (states-back k (drop c (s ∷ ss)) l) i)
+
+-- and every number of the range is given a state
+pub states-reach : (k : ℕ) (ss : List Bool) → length ss ≤ k → length ss ≤ length (statesOf (vectorOf ss))
+unfolding statesOf
+states-reach zero ss h = omega arith
+states-reach (suc k) [] h = omega arith
+states-reach (suc k) (s ∷ ss) h =
+    let c = coversOf s ss in
+    let d = length-drop c (s ∷ ss) in
+    let rest = states-reach k (drop c (s ∷ ss)) (omega (arith, covers-some s ss)) in
+    let both = length-append (statesIn (saysOf (byteOf s ss))) (statesOf (vectorOf (drop c (s ∷ ss)))) in
+    rw (vector-more s ss) (omega (arith, byte-span s ss))

@@ -1,8 +1,9 @@
 -- What the bytes of an acknowledgement vector say (document 01, "On the wire", its last point; document 000, 2.2.1.2.6).
-use Prim.Native.Nat.{ℕ, zero, suc, _-_, _%_, _/_, _^_}
+use Prim.Native.Nat.{ℕ, zero, suc, _-_, _%_, _/_, _^_, _≤_, _<_}
 use mathlib.Core.Bool.{Bool, false, cond}
 use mathlib.Core.List.{List, [], _∷_, _++_}
-use lib.ListN.{getD, replicate}
+use mathlib.Core.Path.{_≡_}
+use lib.ListN.{length, getD, replicate}
 use lib.Dec.{eqb, leb}
 use Rattle.vector.specs.declared.Saying.{Saying}
 use Rattle.vector.specs.declared.Saying.the-variants.{Map, Run}
@@ -33,6 +34,15 @@ statesOf (b ∷ bs) = statesIn (saysOf b) ++ statesOf bs
 -- does a vector from this base name number n as received?
 unfoldable pub names : List ℕ → ℕ → ℕ → Bool
 names v base n = cond (leb base n) (getD (statesOf v) (n - base) false) false
+
+-- a vector gives every number of a range a state, and the right one; what it says past the range is not looked at
+pub record Gives (v : List ℕ) (ss : List Bool) : Type 0 where
+  pub every : length ss ≤ length (statesOf v)
+  pub right : (i : ℕ) → i < length ss → getD (statesOf v) i false ≡ getD ss i false
+
+-- from whatever base, no vector that names exactly the same numbers has fewer bytes
+abbrev pub Shortest : List ℕ → Type 0
+Shortest v = (base : ℕ) (u : List ℕ) → ((n : ℕ) → names u base n ≡ names v base n) → length v ≤ length u
 
 -- how many of some states are received
 unfoldable pub countOf : List Bool → ℕ
