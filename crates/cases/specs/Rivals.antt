@@ -1,5 +1,5 @@
--- What the rule writes for some patterns, beside another vector that names the same numbers from the same base, as one statement over one list. Each rival
--- is what another rule would write; none is shorter, as no vector could be.
+-- What the rule writes for some patterns, beside another vector that names the same numbers from the same base, as one statement over one list. The
+-- rivals are what another rule, or a wasteful writer, would write; none is shorter, as no vector could be.
 use Prim.Native.Nat.{ℕ, _+_, _-_}
 use mathlib.Core.Bool.{true, false}
 use mathlib.Core.List.{List, [], _∷_, _++_}

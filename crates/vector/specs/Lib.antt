@@ -1,4 +1,4 @@
--- Acknowledgement vectors: what a byte says, the rule that writes them, and that what is written reads back.
+-- Acknowledgement vectors: what a byte says, the rule that writes them, that what is written reads back, and that no vector is shorter.
 pub mod Says
 pub mod Rule
 pub mod Laws
