@@ -16,7 +16,6 @@ ghost use Rattle.acknowledging.specs.Walk.{walkOf, judgeUpTo, judgeListe
 use numbers::DataNumber;
 use numbers::WidenedData;
 use sender::Sender;
-use sender::checking;
 use wire::Packet;
 use wire::Reading;
 use wire::bits;
@@ -229,7 +228,7 @@ pub fn acknowledge(s: Sender, d: &[u8]) -> Acknowledged
     ensures answer { λ r. ⌜ r .answer ≡ acknowledgeAnswer 32 32 s (now (d .entry)) ⌝ }
     ensures record { λ r. ⌜ r .sender ≡ acknowledgeOf 32 32 s (now (d .entry)) ⌝ }
 {
-    if !checking::consistent(s) {
+    if !sender_checking::consistent(s) {
         return Acknowledged {
             sender: s,
             answer: 13,

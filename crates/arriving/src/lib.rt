@@ -6,7 +6,6 @@ ghost use Rattle.receiver.specs.Receive.{receiveAnswer, receiveOf};
 pub mod packet;
 
 use receiver::Receiver;
-use receiver::checking;
 use wire::Reading;
 
 // What receiving a datagram answers: document 01's number, and the record after the call; it stands first, which spares copies of it.
@@ -23,7 +22,7 @@ pub fn receive(r: Receiver, store: &mut [u8], d: &[u8]) -> Received
     ensures record { λ x. ⌜ x .receiver ≡ receiveOf 32 32 (state r (now (store .entry))) (now (d .entry)) .receiver ⌝ }
     ensures bytes { λ x. ⌜ now (store .exit) ≡ receiveOf 32 32 (state r (now (store .entry))) (now (d .entry)) .store ⌝ }
 {
-    if !window::sound(checking::consistent(r), store.len()) {
+    if !window::sound(receiver_checking::consistent(r), store.len()) {
         return Received {
             receiver: r,
             answer: 13,

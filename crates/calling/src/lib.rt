@@ -42,7 +42,7 @@ pub fn call(
     ensures { λ x. ⌜ Does (endpointWith s r (now (store .entry)) (now (sent .entry))) (callBy kind tick (now (bytes .entry))) x (now (store .exit)) (now (sent .exit)) ⌝ }
 {
     if kind == trace::IN {
-        let x = endpoint::receive(s, r, store, bytes);
+        let x = receiving::receive(s, r, store, bytes);
         let sender = x.sender;
         let receiver = x.receiver;
         return Called {

@@ -62,7 +62,7 @@ fn sends(p: Pair, line: &[u8]) -> Pair {
 
 // A datagram arrives.
 fn receives(p: Pair, store: &mut [u8], d: &[u8]) -> Pair {
-    let got = endpoint::receive(p.sender, p.receiver, store, d);
+    let got = receiving::receive(p.sender, p.receiver, store, d);
     let s = got.sender;
     let r = got.receiver;
     let q = Pair {

@@ -52,7 +52,7 @@ fn arrives(e: End, store: &mut [u8], datagram: &[u8], n: usize) -> End {
     if datagram.len() < n {
         return e;
     }
-    let got = endpoint::receive(e.sender, e.receiver, store, &datagram[..n]);
+    let got = receiving::receive(e.sender, e.receiver, store, &datagram[..n]);
     let s = got.sender;
     let r = got.receiver;
     let mut q = e;

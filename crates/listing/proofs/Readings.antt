@@ -1,6 +1,6 @@
--- The lines of what was read, in the parts that are written one after the other, a law for each way out.
+-- The lines of what was read, a law for each way out.
 use Prim.Native.Nat.{ℕ}
-use mathlib.Core.List.{_++_, append-assoc, append-nil}
+use mathlib.Core.List.{_++_}
 use mathlib.Core.Path.{_≡_, refl}
 use Rattle.text.specs.Ascii.{ascii}
 use Rattle.text.specs.Decimal.{decimalOf}
@@ -8,14 +8,8 @@ use Rattle.text.specs.Lines.{under}
 use Rattle.wire.specs.declared.Packet.{Packet}
 use Rattle.wire.specs.declared.Reading.{Reading}
 use Rattle.wire.specs.declared.Reading.the-variants.{Refused, Dummy, Read}
-use Rattle.listing.specs.Lines.{packetLines, linesFor}
-use Rattle.listing.specs.Parts.{headLines, middleLines, tailLines}
-
--- the twelve lines in their three parts
-pub packet-parts : (p : Packet)
-    → headLines (p .values) ++ (middleLines (p .values) ++ tailLines (p .values) (p .bytes)) ≡ packetLines p
-unfolding headLines middleLines tailLines packetLines
-packet-parts p = simp (append-assoc, append-nil)
+use Rattle.listing_packet.specs.Lines.{packetLines}
+use Rattle.listing.specs.Lines.{linesFor}
 
 pub refused-lines : {r : Reading} {n : ℕ} → r ≡ Refused n → under (ascii "answer=") (decimalOf n) ≡ linesFor r
 unfolding linesFor

@@ -9,7 +9,8 @@ use Rattle.wire.specs.Frame.{swapped, droppedBy, endOf}
 use Rattle.wire.specs.Flags.{sixOf, outside}
 use Rattle.wire.specs.Layout.{ackEnd, overheadEnd, delayEnd, aoaEnd, numberEnd, vectorEnd, channelEnd, valuesOf, packetOf}
 use Rattle.wire.specs.Read.{readPacket, readOf}
-use Rattle.listing.specs.Lines.{packetLines, linesFor, listingOf}
+use Rattle.listing_packet.specs.Lines.{packetLines}
+use Rattle.listing.specs.Lines.{linesFor, listingOf}
 
 unfoldable pub cases : List Case
 cases =

@@ -1,5 +1,4 @@
 -- The listing of one datagram (document 01, "The listing").
 pub mod Lines
-pub mod Parts
 pub mod Laws
 pub mod Cases

@@ -24,7 +24,7 @@ fn arrives(r: Run, store: &mut [u8], datagram: &[u8], n: usize) -> Run {
     if datagram.len() < n {
         return r;
     }
-    let got = endpoint::receive(r.sender, r.receiver, store, &datagram[..n]);
+    let got = receiving::receive(r.sender, r.receiver, store, &datagram[..n]);
     let s = got.sender;
     let q = got.receiver;
     let mut next = r;

@@ -1,5 +1,3 @@
 -- Laws that the functions' proofs cite.
 mod Exchanged
 mod Copied
-mod Ways
-mod Front

@@ -16,7 +16,6 @@ pub mod Set
 pub mod StaysConsistent
 pub mod AnyOrder
 pub mod CanBeMet
-pub mod Checking
 pub mod AcknowledgeLaws
 pub mod Facts
 pub mod Blocks

@@ -3,9 +3,6 @@
 // A record goes in by value and comes back by value; blocks stand in a store that the host lends, 1,225 bytes to a place.
 ghost use mathlib.Core.Path.{_≡_};
 ghost use Rattle.receiver.specs.Fresh.{freshOf};
-
-pub mod checking;
-
 use numbers::ChannelNumber;
 use numbers::DataNumber;
 

@@ -1,6 +1,9 @@
 // The lines of a replay: an answer, and the full record of an endpoint, laid over a lent buffer; each gives the next free place.
 ghost use Prim.Native.Nat.{_+_, _≤_, _<_};
 ghost use lib.ListN.{length};
+ghost use mathlib.Core.List.{[]};
+ghost use Rattle.text.specs.Ascii.{ascii};
+ghost use Rattle.text.specs.Lines.{between};
 ghost use Rattle.text.specs.Within.{LaidWithin};
 ghost use Rattle.record_lines.specs.AnswerLine.{answerLine};
 ghost use Rattle.record_lines.specs.Record.{numberLine, blockLine, senderPlace, markLine, holdLine, receiverPlace, allPlaces, senderFields, receiverFields, recordText};
@@ -10,6 +13,38 @@ use sender::BlockPlace;
 use sender::NumberPlace;
 use sender::Sender;
 
+// A key, a number and a newline.
+fn entry(out: &mut [u8], at: usize, key: &[u8], n: u64) -> usize
+    requires { ⌜ at + (length (now key) + 21) ≤ length (now out) ⌝ }
+    ensures { λ r. ⌜ LaidWithin (length (now (key .entry)) + 21) (between (now (key .entry)) n (ascii "\n")) (now (out .entry)) at (now (out .exit)) r ⌝ }
+{
+    text::field(out, at, key, n, b"\n")
+}
+
+// A place's key: a word, the place's number and the sign before its value.
+fn named(out: &mut [u8], at: usize, word: &[u8], i: u64) -> usize
+    requires { ⌜ at + (length (now word) + 21) ≤ length (now out) ⌝ }
+    ensures { λ r. ⌜ LaidWithin (length (now (word .entry)) + 21) (between (now (word .entry)) i (ascii "=")) (now (out .entry)) at (now (out .exit)) r ⌝ }
+{
+    text::field(out, at, word, i, b"=")
+}
+
+// A number that others follow.
+fn comma(out: &mut [u8], at: usize, n: u64) -> usize
+    requires { ⌜ at + 21 ≤ length (now out) ⌝ }
+    ensures { λ r. ⌜ LaidWithin 21 (between [] n (ascii ",")) (now (out .entry)) at (now (out .exit)) r ⌝ }
+{
+    text::field(out, at, b"", n, b",")
+}
+
+// The last number of a line.
+fn last(out: &mut [u8], at: usize, n: u64) -> usize
+    requires { ⌜ at + 21 ≤ length (now out) ⌝ }
+    ensures { λ r. ⌜ LaidWithin 21 (between [] n (ascii "\n")) (now (out .entry)) at (now (out .exit)) r ⌝ }
+{
+    text::field(out, at, b"", n, b"\n")
+}
+
 // The line of an answer; an accepted sweep's has the number of the lost too.
 pub fn answer_line(out: &mut [u8], at: usize, sweep: bool, n: u8, lost: u32) -> usize
     requires { ⌜ at + 30 ≤ length (now out) ⌝ }
@@ -17,10 +52,10 @@ pub fn answer_line(out: &mut [u8], at: usize, sweep: bool, n: u8, lost: u32) -> 
 {
     if sweep {
         if n == 0 {
-            return text::field(out, at, b"answer=0,", lost as u64, b"\n");
+            return entry(out, at, b"answer=0,", lost as u64);
         }
     }
-    text::field(out, at, b"answer=", n as u64, b"\n")
+    entry(out, at, b"answer=", n as u64)
 }
 
 // A place of a data number.
@@ -28,10 +63,10 @@ fn number_line(out: &mut [u8], at: usize, i: u64, p: NumberPlace) -> usize
     requires { ⌜ at + 97 ≤ length (now out) ⌝ }
     ensures { λ r. ⌜ LaidWithin 97 (numberLine i p) (now (out .entry)) at (now (out .exit)) r ⌝ }
 {
-    let at1 = text::field(out, at, b"sender.number", i, b"=");
-    let at2 = text::field(out, at1, b"", p.state as u64, b",");
-    let at3 = text::field(out, at2, b"", p.channel.0, b",");
-    text::field(out, at3, b"", p.tick as u64, b"\n")
+    let at1 = named(out, at, b"sender.number", i);
+    let at2 = comma(out, at1, p.state as u64);
+    let at3 = comma(out, at2, p.channel.0);
+    last(out, at3, p.tick as u64)
 }
 
 // A place of a block that was sent.
@@ -39,9 +74,9 @@ fn block_line(out: &mut [u8], at: usize, i: u64, b: BlockPlace) -> usize
     requires { ⌜ at + 75 ≤ length (now out) ⌝ }
     ensures { λ r. ⌜ LaidWithin 75 (blockLine i b) (now (out .entry)) at (now (out .exit)) r ⌝ }
 {
-    let at1 = text::field(out, at, b"sender.block", i, b"=");
-    let at2 = text::field(out, at1, b"", b.state as u64, b",");
-    text::field(out, at2, b"", b.length as u64, b"\n")
+    let at1 = named(out, at, b"sender.block", i);
+    let at2 = comma(out, at1, b.state as u64);
+    last(out, at2, b.length as u64)
 }
 
 // The sender's places.
@@ -66,8 +101,8 @@ fn mark_line(out: &mut [u8], at: usize, i: u64, m: u8) -> usize
     requires { ⌜ at + 55 ≤ length (now out) ⌝ }
     ensures { λ r. ⌜ LaidWithin 55 (markLine i m) (now (out .entry)) at (now (out .exit)) r ⌝ }
 {
-    let at1 = text::field(out, at, b"receiver.mark", i, b"=");
-    text::field(out, at1, b"", m as u64, b"\n")
+    let at1 = named(out, at, b"receiver.mark", i);
+    last(out, at1, m as u64)
 }
 
 // A place of a block that may be held.
@@ -75,9 +110,9 @@ fn hold_line(out: &mut [u8], at: usize, i: u64, h: Hold) -> usize
     requires { ⌜ at + 76 ≤ length (now out) ⌝ }
     ensures { λ r. ⌜ LaidWithin 76 (holdLine i h) (now (out .entry)) at (now (out .exit)) r ⌝ }
 {
-    let at1 = text::field(out, at, b"receiver.hold", i, b"=");
-    let at2 = text::field(out, at1, b"", h.held as u64, b",");
-    text::field(out, at2, b"", h.length as u64, b"\n")
+    let at1 = named(out, at, b"receiver.hold", i);
+    let at2 = comma(out, at1, h.held as u64);
+    last(out, at2, h.length as u64)
 }
 
 // The receiver's places.
@@ -102,13 +137,13 @@ fn sender_fields(out: &mut [u8], at: usize, s: Sender) -> usize
     requires { ⌜ at + 259 ≤ length (now out) ⌝ }
     ensures { λ r. ⌜ LaidWithin 259 (senderFields s) (now (out .entry)) at (now (out .exit)) r ⌝ }
 {
-    let at1 = text::field(out, at, b"sender.firstdata=", s.firstdata.0, b"\n");
-    let at2 = text::field(out, at1, b"sender.firstchannel=", s.firstchannel.0, b"\n");
-    let at3 = text::field(out, at2, b"sender.timeout=", s.timeout as u64, b"\n");
-    let at4 = text::field(out, at3, b"sender.low=", s.low.0, b"\n");
-    let at5 = text::field(out, at4, b"sender.next=", s.next.0, b"\n");
-    let at6 = text::field(out, at5, b"sender.channellow=", s.channellow.0, b"\n");
-    text::field(out, at6, b"sender.channelnext=", s.channelnext.0, b"\n")
+    let at1 = entry(out, at, b"sender.firstdata=", s.firstdata.0);
+    let at2 = entry(out, at1, b"sender.firstchannel=", s.firstchannel.0);
+    let at3 = entry(out, at2, b"sender.timeout=", s.timeout as u64);
+    let at4 = entry(out, at3, b"sender.low=", s.low.0);
+    let at5 = entry(out, at4, b"sender.next=", s.next.0);
+    let at6 = entry(out, at5, b"sender.channellow=", s.channellow.0);
+    entry(out, at6, b"sender.channelnext=", s.channelnext.0)
 }
 
 // The receiver's single fields.
@@ -116,11 +151,11 @@ fn receiver_fields(out: &mut [u8], at: usize, r: Receiver) -> usize
     requires { ⌜ at + 186 ≤ length (now out) ⌝ }
     ensures { λ x. ⌜ LaidWithin 186 (receiverFields r) (now (out .entry)) at (now (out .exit)) x ⌝ }
 {
-    let at1 = text::field(out, at, b"receiver.firstdata=", r.firstdata.0, b"\n");
-    let at2 = text::field(out, at1, b"receiver.firstchannel=", r.firstchannel.0, b"\n");
-    let at3 = text::field(out, at2, b"receiver.base=", r.base.0, b"\n");
-    let at4 = text::field(out, at3, b"receiver.end=", r.end.0, b"\n");
-    text::field(out, at4, b"receiver.due=", r.due.0, b"\n")
+    let at1 = entry(out, at, b"receiver.firstdata=", r.firstdata.0);
+    let at2 = entry(out, at1, b"receiver.firstchannel=", r.firstchannel.0);
+    let at3 = entry(out, at2, b"receiver.base=", r.base.0);
+    let at4 = entry(out, at3, b"receiver.end=", r.end.0);
+    entry(out, at4, b"receiver.due=", r.due.0)
 }
 
 // The full record.

@@ -38,7 +38,7 @@ pub fn receive(
     let mut i: usize = 0;
     while i < n {
         let end = repeating::end_of(from, ends[i], bytes.len());
-        let y = endpoint::receive(q, t, store, &bytes[from..end]);
+        let y = receiving::receive(q, t, store, &bytes[from..end]);
         answers[i] = y.answer;
         q = y.sender;
         t = y.receiver;

@@ -9,10 +9,10 @@ use Rattle.common.specs.Laid.{Laid, laid-nothing, laid-then, laid-as}
 use Rattle.text.specs.Within.{LaidWithin, within-length}
 use Rattle.trace.specs.Lines.{upTo, linesOf}
 use Rattle.trace.specs.LinesLaws.{upTo-length, upTo-take, past-drop, lines-first}
-use Rattle.stepping.specs.declared.State.{State}
-use Rattle.stepping.specs.Steps.{Machine, begun, stepOf, stepText, endText, runOf}
+use Rattle.trace_state.specs.declared.State.{State}
+use Rattle.trace_state.specs.Steps.{Machine, begun, stepOf, stepText, endText, runOf}
 use Rattle.replayer.specs.LineLaws.{run-none}
-use Rattle.stepping.specs.Takes.{Steps, machineOf, freshState, paid}
+use Rattle.trace_state.specs.Takes.{Steps, machineOf, freshState, paid}
 
 -- t is the trace, and `from` the place of the next line; `done` is what was written so far
 pub record Ran (t store₀ sent₀ out₀ : List ℕ) (s : State) (store sent out : List ℕ) (at from : ℕ) : Type 0 where

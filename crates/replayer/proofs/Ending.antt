@@ -14,7 +14,7 @@ use Rattle.record_lines.specs.AnswerLine.{answerLine}
 use Rattle.trace.specs.Lines.{linesOf}
 use Rattle.answering.specs.Answers.{refusal}
 use Rattle.replayer.specs.Replay.{blankStore, replayOf}
-use Rattle.stepping.specs.Steps.{begun, endFor, runOf}
+use Rattle.trace_state.specs.Steps.{begun, endFor, runOf}
 use Rattle.replayer.specs.LineByLine.{line-by-line}
 
 -- an answer that is no sweep's

@@ -4,7 +4,7 @@ use mathlib.Core.List.{List}
 use mathlib.Core.Path.{_≡_, _∙_, ap}
 use Rattle.trace.specs.Read.{freshCursor, headOf}
 use Rattle.replayer.specs.Replay.{blankStore, headReplayed}
-use Rattle.stepping.specs.Steps.{begun, runOf}
+use Rattle.trace_state.specs.Steps.{begun, runOf}
 use Rattle.replayer.specs.LineLaws.{format-run, same-head}
 
 pub line-by-line : (ls : List (List ℕ)) → runOf (begun blankStore blankStore) ls ≡ headReplayed (headOf ls)

@@ -26,7 +26,7 @@ use Rattle.endpoint.specs.Fresh.{endpointOf, freshOf, opened-fresh}
 use Rattle.calling.specs.Asks.{callFor, callsFor}
 use Rattle.answering.specs.Answers.{refusal, answerFor, answersFor}
 use Rattle.replayer.specs.Replay.{recordOf, blankStore, eventsReplayed, headReplayed}
-use Rattle.stepping.specs.Steps.{Machine, machine, dataRead, called, openedBy, opening, stepOf, stepText, endFor, endText, runOf}
+use Rattle.trace_state.specs.Steps.{Machine, machine, dataRead, called, openedBy, opening, stepOf, stepText, endFor, endText, runOf}
 
 -- where no line is due any more, nothing is written but the end
 next-ended : (c : Cursor) (l : List ℕ) → 7 ≤ c .due → nextOf c l ≡ c

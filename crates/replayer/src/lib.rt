@@ -7,9 +7,9 @@ ghost use Rattle.common.specs.Answer.{writtenOf, leftOf, roomAnswer};
 ghost use Rattle.text.specs.Within.{LaidWithin};
 ghost use Rattle.trace.specs.Lines.{linesOf};
 ghost use Rattle.replayer.specs.Replay.{blankStore, replayOf};
-ghost use Rattle.stepping.specs.Steps.{begun, endFor, runOf};
+ghost use Rattle.trace_state.specs.Steps.{begun, endFor, runOf};
 use common::Written;
-use stepping::State;
+use trace_state::State;
 
 // The longest trace.
 pub const LONGEST_TRACE: usize = 65536;
@@ -29,7 +29,7 @@ fn finish(s: State, out: &mut [u8], at: usize) -> usize
     if due == trace::TICK_DUE {
         return record_lines::full_record(out, at, sender, receiver);
     }
-    if due == stepping::UNOPENED {
+    if due == trace_state::UNOPENED {
         return record_lines::answer_line(out, at, false, 15, 0);
     }
     if due < trace::TICK_DUE {
@@ -47,7 +47,7 @@ fn run(trace: &[u8], store: &mut [u8], sent: &mut [u8], out: &mut [u8]) -> usize
     requires { ⌜ (length (now trace) ≤ 65536) × (131072 ≤ length (now out)) ⌝ }
     ensures { λ r. ⌜ LaidWithin 131072 (runOf (begun (now (store .entry)) (now (sent .entry))) (linesOf (now (trace .entry)))) (now (out .entry)) 0 (now (out .exit)) r ⌝ }
 {
-    let mut state = stepping::begin();
+    let mut state = trace_state::begin();
     let mut at = 0;
     let mut from = 0;
     while from < trace.len() {

@@ -23,7 +23,7 @@ use Rattle.sender.specs.Send.{dataBytes, sentOf, waitingFrom, lowestWaiting, is
 use Rattle.resending.specs.Lowest.{lowestOf}
 use Rattle.sender.specs.Facts.{consistent-facts}
 use Rattle.sender.specs.SendReady.{sound-facts, waiting-found}
-use Rattle.sending.proofs.NewBlock.{refused-is, wrote-is}
+use Rattle.carrying.proofs.Told.{refused-is, wrote-is}
 
 -- the number that was found, from what the code hands on
 optionIn : Lowest → Option ℕ

@@ -5,12 +5,11 @@ ghost use Rattle.common.specs.Answer.{writtenOf, leftOf};
 ghost use Rattle.sender.specs.Record.{state};
 ghost use Rattle.sender.specs.Send.{lowestWaiting, resendAnswer, resendDatagram, resendOf};
 ghost use Rattle.resending.specs.Lowest.{lowestOf};
+use carrying::Outcome;
 use common::Written;
 use numbers::ChannelNumber;
 use numbers::DataNumber;
 use sender::Sender;
-use sender::checking;
-use sending::Outcome;
 
 // The waiting block of lowest channel number, if any waits.
 pub enum Lowest {
@@ -48,7 +47,7 @@ pub fn resend(s: Sender, store: &[u8], tick: u32, out: &mut [u8]) -> Outcome
             sender: s,
         };
     }
-    if !checking::consistent(s) {
+    if !sender_checking::consistent(s) {
         return Outcome {
             written: Written::Refused(13),
             sender: s,
@@ -80,13 +79,13 @@ pub fn resend(s: Sender, store: &[u8], tick: u32, out: &mut [u8]) -> Outcome
     let b = places[at];
     let length = b.length;
     let start = at * window::PLACE;
-    match sending::put_data(low, next, c, &store[start..start + length as usize], out) {
+    match carrying::put_data(low, next, c, &store[start..start + length as usize], out) {
         Written::Refused(n) => Outcome {
             written: Written::Refused(n),
             sender: s,
         },
         Written::Wrote(k) => {
-            let q = sending::sent(s, tick, c, length, s.channelnext);
+            let q = carrying::sent(s, tick, c, length, s.channelnext);
             Outcome {
                 written: Written::Wrote(k),
                 sender: q,

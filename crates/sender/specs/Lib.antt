@@ -14,7 +14,6 @@ pub mod StaysConsistent
 pub mod LostAreCounted
 pub mod AnyOrder
 pub mod Outset
-pub mod Checking
 pub mod PlaceTests
 pub mod Facts
 pub mod TurnedWants

@@ -2,10 +2,9 @@
 // `acknowledging`, `sweeping` and `sending`.
 // A record goes in by value and comes back by value; sent blocks stand in a store that the host lends, 1,225 bytes to a place.
 ghost use mathlib.Core.Path.{_≡_};
+ghost use mathlib.Core.Bool.{true, cond};
+ghost use lib.Dec.{eqb};
 ghost use Rattle.sender.specs.Fresh.{freshOf};
-
-pub mod checking;
-
 use numbers::ChannelNumber;
 use numbers::DataNumber;
 
@@ -102,4 +101,14 @@ pub fn opened(firstdata: u16, firstchannel: u16, timeout: u32) -> Sender
             length: 0,
         }; 32],
     }
+}
+
+// Does low pass a number in this state?
+pub fn passes(state: u8) -> bool
+    ensures { λ r. ⌜ r ≡ cond (eqb state 2) true (eqb state 3) ⌝ }
+{
+    if state == RECEIVED {
+        return true;
+    }
+    state == LOST
 }

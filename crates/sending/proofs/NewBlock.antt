@@ -6,10 +6,10 @@ use mathlib.Core.Path.{_≡_, refl, sym, _∙_, ap}
 use native.Mathlib.Omega.{arith}
 use lib.ListN.{length}
 use lib.Dec.{eqb, leb, ltb}
-use borrow.Author.Tests.{lt-ltb, le-ltb, eqb-true, eqb-false, eq-eqb, ne-eqb}
+use borrow.Author.Tests.{lt-ltb, le-ltb, eq-eqb, ne-eqb}
 use Rattle.common.specs.declared.Written.{Written}
 use Rattle.common.specs.declared.Written.the-variants.{Refused, Wrote}
-use Rattle.common.specs.Answer.{writtenOf, leftOf, numberOf, written-refused, left-refused, roomAnswer}
+use Rattle.common.specs.Answer.{writtenOf, leftOf, written-refused, left-refused, roomAnswer}
 use Rattle.common.specs.Choice.{unless}
 use Rattle.common.specs.Order.{first-here, first-skip}
 use Rattle.common.specs.Put.{putOf}
@@ -19,36 +19,12 @@ use Rattle.sender.specs.declared.Sender.{Sender}
 use Rattle.sender.specs.Record.{longestSent, State}
 use Rattle.sender.specs.Consistent.{consistentOf, soundOf}
 use Rattle.sender.specs.Send.{sentOf, newAnswer, newDatagram, newOf}
-use Rattle.sender.specs.Facts.{Bounds, consistent-facts}
-use Rattle.sender.specs.SendReady.{sound-facts}
-
--- what an answer that was written tells of its number
-pub refused-is : (n a : ℕ) (b : List ℕ) → Refused n ≡ writtenOf a b → (n ≡ a) × (n ≡ 0 → ⊥)
-unfolding writtenOf
-refused-is n a b e = go (eqb a 0) refl e
-  where
-    go : (t : Bool) → eqb a 0 ≡ t → Refused n ≡ cond t (Wrote (length b)) (Refused a) → (n ≡ a) × (n ≡ 0 → ⊥)
-    go true t w = absurd (let z : _≡_ {A = ℕ} 0 1 = cc in omega arith)
-    go false t w = let q : n ≡ a = ap numberOf w in (q, λ z. eqb-false a 0 t (sym q ∙ z))
-
-pub wrote-is : (k a : ℕ) (b : List ℕ) → Wrote k ≡ writtenOf a b → a ≡ 0
-unfolding writtenOf
-wrote-is k a b e = go (eqb a 0) refl e
-  where
-    go : (t : Bool) → eqb a 0 ≡ t → Wrote k ≡ cond t (Wrote (length b)) (Refused a) → a ≡ 0
-    go true t w = eqb-true a 0 t
-    go false t w = absurd (let z : _≡_ {A = ℕ} 0 1 = cc in omega arith)
+use Rattle.carrying.proofs.Told.{refused-is, wrote-is}
 
 abbrev usedUp : State → Bool
 usedUp s = cond (ltb highest (s .sender .next .0)) true (ltb highest (s .sender .channelnext .0))
 
 module _ (w : ℕ) where
-  -- what a sound record tells
-  pub sound-bounds : (s : Sender) (size : ℕ) → 0 < w → soundOf w w s size ≡ true → Bounds w s × (size ≡ storeSize w)
-  sound-bounds s size lw h =
-      let (k, e) = sound-facts w w s size h in
-      (consistent-facts w w s lw (omega arith) k .bounds, e)
-
   -- what a new block's call leaves: the answer, the record, the store and the buffer
   pub record Left (s : State) (tick : ℕ) (block out : List ℕ) (x : Written) (q : Sender) (store left : List ℕ) : Type 0 where
     pub written : x ≡ writtenOf (newAnswer w w s block (length out)) (newDatagram s block)

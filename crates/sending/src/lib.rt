@@ -4,73 +4,15 @@ ghost use mathlib.Core.Bool.{true, cond};
 ghost use Prim.Native.Nat.{_+_, _≤_};
 ghost use lib.ListN.{length};
 ghost use lib.Dec.{leb, ltb};
-ghost use Rattle.common.specs.Answer.{roomAnswer, writtenOf, leftOf};
+ghost use Rattle.common.specs.Answer.{writtenOf, leftOf};
 ghost use Rattle.numbers.specs.Full.{highest, pastHighest};
-ghost use Rattle.sender.specs.Send.{dataBytes, sentOf, newAnswer, newDatagram, newOf};
-ghost use Rattle.sender.specs.Record.{longestSent, state};
+ghost use Rattle.sender.specs.Send.{newAnswer, newDatagram, newOf};
+ghost use Rattle.sender.specs.Record.{state};
+use carrying::Outcome;
 use common::Written;
 use numbers::ChannelNumber;
 use numbers::DataNumber;
-use sender::BlockPlace;
-use sender::NumberPlace;
 use sender::Sender;
-use sender::checking;
-use wire::Ack;
-use wire::Delay;
-use wire::Values;
-use wire::Vector;
-
-// The flags of a data packet: AOA and DATA, nothing else.
-const AOA_AND_DATA: u16 = 0x014;
-
-// What a call that sends answers: what it wrote, and the record.
-pub struct Outcome {
-    // The refusal, or how many bytes were written.
-    pub written: Written,
-    // The record after the call.
-    pub sender: Sender,
-}
-
-// Writes the datagram that carries a block. Refused with 14 alone.
-pub fn put_data(
-    low: DataNumber,
-    next: DataNumber,
-    channel: ChannelNumber,
-    block: &[u8],
-    out: &mut [u8],
-) -> Written
-    requires { ⌜ length (now block) ≤ longestSent ⌝ }
-    ensures answer { λ r. ⌜ r ≡ writtenOf (roomAnswer (dataBytes (low .0) (next .0) (channel .0) (now (block .entry))) (length (now (out .entry)))) (dataBytes (low .0) (next .0) (channel .0) (now (block .entry))) ⌝ }
-    ensures bytes { λ r. ⌜ now (out .exit) ≡ leftOf (roomAnswer (dataBytes (low .0) (next .0) (channel .0) (now (block .entry))) (length (now (out .entry)))) (dataBytes (low .0) (next .0) (channel .0) (now (block .entry))) (now (out .entry)) ⌝ }
-{
-    let values = Values {
-        flags: AOA_AND_DATA,
-        logwindow: wire::LOGWINDOW,
-        ack: Ack {
-            number: 0,
-            time: 0,
-            gap: 0,
-            count: 0,
-            scale: 0,
-        },
-        overhead: 0,
-        delay: Delay {
-            most: 0,
-            timeout: 0,
-        },
-        aoa: (low.0 % DataNumber::LAP) as u16,
-        number: (next.0 % DataNumber::LAP) as u16,
-        vector: Vector {
-            base: 0,
-            size: 0,
-            timed: false,
-            time: 0,
-            gap: 0,
-        },
-        channel: (channel.0 % ChannelNumber::LAP) as u16,
-    };
-    writer::write(values, b"", b"", block, out)
-}
 
 // Has a number passed the full range?
 fn used_up(next: DataNumber, channelnext: ChannelNumber) -> bool
@@ -98,35 +40,6 @@ fn full(
     channellow.0 + ChannelNumber::WINDOW <= channelnext.0
 }
 
-// The record after the next data number went out with block c, of so many bytes, at this tick.
-pub fn sent(
-    s: Sender,
-    tick: u32,
-    c: ChannelNumber,
-    length: u16,
-    channelnext: ChannelNumber,
-) -> Sender
-    requires { ⌜ s .next .0 ≤ pastHighest ⌝ }
-    ensures { λ r. ⌜ r ≡ sentOf 32 s tick (c .0) length (channelnext .0) ⌝ }
-{
-    let numberat = window::data_place(s.next);
-    let blockat = window::channel_place(c);
-    let mut q = s;
-    let next = DataNumber(s.next.0 + 1);
-    q.next = next;
-    q.channelnext = channelnext;
-    q.numbers[numberat] = NumberPlace {
-        channel: c,
-        tick,
-        state: sender::PENDING,
-    };
-    q.blocks[blockat] = BlockPlace {
-        state: sender::INFLIGHT,
-        length,
-    };
-    q
-}
-
 // Sends a new block at a tick: writes its datagram into out, and keeps the block in store, the sender's own of 39,200 bytes. Refused with 13, 10,
 // 12, 9, 14, in this order.
 pub fn send(s: Sender, store: &mut [u8], tick: u32, block: &[u8], out: &mut [u8]) -> Outcome
@@ -141,7 +54,7 @@ pub fn send(s: Sender, store: &mut [u8], tick: u32, block: &[u8], out: &mut [u8]
             sender: s,
         };
     }
-    if !checking::consistent(s) {
+    if !sender_checking::consistent(s) {
         return Outcome {
             written: Written::Refused(13),
             sender: s,
@@ -169,7 +82,7 @@ pub fn send(s: Sender, store: &mut [u8], tick: u32, block: &[u8], out: &mut [u8]
             sender: s,
         };
     }
-    match put_data(low, next, channel, block, out) {
+    match carrying::put_data(low, next, channel, block, out) {
         Written::Refused(n) => Outcome {
             written: Written::Refused(n),
             sender: s,
@@ -177,7 +90,7 @@ pub fn send(s: Sender, store: &mut [u8], tick: u32, block: &[u8], out: &mut [u8]
         Written::Wrote(k) => {
             let at = window::channel_place(channel);
             common::put(store, at * window::PLACE, block);
-            let q = sent(
+            let q = carrying::sent(
                 s,
                 tick,
                 channel,

@@ -33,11 +33,11 @@ use Rattle.sender.specs.declared.Sender.{Sender}
 use Rattle.endpoint.specs.declared.Opened.{Opened}
 use Rattle.endpoint.specs.Fresh.{endpointOf}
 use Rattle.endpoint.specs.Calls.{Endpoint, callOf}
-use Rattle.stepping.specs.declared.State.{State}
+use Rattle.trace_state.specs.declared.State.{State}
 use Rattle.calling.specs.Asks.{endpointWith, callBy}
 use Rattle.answering.specs.Answers.{answerFor}
-use Rattle.stepping.specs.Steps.{machine, dataRead, called, openedBy, openWith, opensAt, opening, stepOf, stepText}
-use Rattle.stepping.specs.Takes.{paid, Steps, machineOf}
+use Rattle.trace_state.specs.Steps.{machine, dataRead, called, openedBy, openWith, opensAt, opening, stepOf, stepText}
+use Rattle.trace_state.specs.Takes.{paid, Steps, machineOf}
 
 -- The line of data, read into a buffer of 32,768 bytes or more: it is refused where it is badly written, and for nothing else.
 

@@ -10,7 +10,6 @@ ghost use Rattle.sweeping.specs.FlagsLost.{FlagsLost};
 ghost use Rattle.sender.specs.Sweep.{becomesLost, sweepAnswer, sweepCount, sweepOf};
 use numbers::DataNumber;
 use sender::Sender;
-use sender::checking;
 
 // Which numbers are lost if they are pending, each at its place, and how many are pending and lost.
 pub struct Losses {
@@ -85,7 +84,7 @@ pub fn sweep(s: Sender, tick: u32) -> Swept
     ensures lost { λ r. ⌜ r .lost ≡ sweepCount 32 32 s tick ⌝ }
     ensures record { λ r. ⌜ r .sender ≡ sweepOf 32 32 s tick ⌝ }
 {
-    if !checking::consistent(s) {
+    if !sender_checking::consistent(s) {
         return Swept {
             sender: s,
             lost: 0,

@@ -10,7 +10,6 @@ use common::Written;
 use numbers::ChannelNumber;
 use receiver::Hold;
 use receiver::Receiver;
-use receiver::checking;
 
 // What taking a block answers, and the record after the call; it stands first, which spares copies of it.
 pub struct Taken {
@@ -39,7 +38,7 @@ pub fn take(r: Receiver, store: &[u8], out: &mut [u8]) -> Taken
     ensures record { λ x. ⌜ x .receiver ≡ takenOf 32 32 (state r (now (store .entry))) (length (now (out .entry))) ⌝ }
     ensures bytes { λ x. ⌜ now (out .exit) ≡ leftOf (takeAnswer 32 32 (state r (now (store .entry))) (length (now (out .entry)))) (blockDue 32 (state r (now (store .entry)))) (now (out .entry)) ⌝ }
 {
-    if !window::sound(checking::consistent(r), store.len()) {
+    if !window::sound(receiver_checking::consistent(r), store.len()) {
         return Taken {
             receiver: r,
             written: Written::Refused(13),

@@ -49,7 +49,7 @@ fn at_fixed(c: Cursor, line: &[u8], words: &[u8], due: u8) -> Cursor
 fn at_first(c: Cursor, line: &[u8]) -> Cursor
     ensures { λ r. ⌜ r ≡ atFirst c (now (line .entry)) ⌝ }
 {
-    let Pair::Both(data, channel) = trace_words::first_numbers(line) else {
+    let Pair::Both(data, channel) = trace_numbers::first_numbers(line) else {
         return trace::waiting(c, trace::HEADLESS);
     };
     let mut r = c;
@@ -63,7 +63,7 @@ fn at_first(c: Cursor, line: &[u8]) -> Cursor
 fn at_timeout(c: Cursor, line: &[u8]) -> Cursor
     ensures { λ r. ⌜ r ≡ atTimeout c (now (line .entry)) ⌝ }
 {
-    let Value::Given(timeout) = trace_words::number_under(line, b"timeout=") else {
+    let Value::Given(timeout) = trace_numbers::number_under(line, b"timeout=") else {
         return trace::waiting(c, trace::HEADLESS);
     };
     let mut r = c;
@@ -76,7 +76,7 @@ fn at_timeout(c: Cursor, line: &[u8]) -> Cursor
 fn at_tick(c: Cursor, line: &[u8]) -> Cursor
     ensures { λ r. ⌜ r ≡ atTick c (now (line .entry)) ⌝ }
 {
-    let Value::Given(tick) = trace_words::number_under(line, b"tick=") else {
+    let Value::Given(tick) = trace_numbers::number_under(line, b"tick=") else {
         return trace::waiting(c, trace::BROKEN);
     };
     let mut r = c;

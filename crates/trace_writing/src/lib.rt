@@ -1,4 +1,5 @@
-// Writing the events of a trace, each as it happens, so that a host can record a morning; `trace_head` writes the head.
+// Writing the events of a trace, each as it happens, so that a host can record a morning; `trace_head` writes the head, and
+// `trace_lead` an event's lines up to its bytes.
 ghost use mathlib.Core.Path.{_≡_};
 ghost use mathlib.Core.List.{_++_};
 ghost use Prim.Native.Nat.{_+_, _≤_, _<_};
@@ -6,45 +7,9 @@ ghost use lib.ListN.{length};
 ghost use Rattle.common.specs.Answer.{writtenOf, leftOf};
 ghost use Rattle.common.specs.Laid.{Laid};
 ghost use Rattle.text.specs.Ascii.{ascii};
-ghost use Rattle.text.specs.Within.{LaidWithin};
 ghost use Rattle.trace.specs.Hex.{hexDigit, hexText};
-ghost use Rattle.trace.specs.Kinds.{kindText};
-ghost use Rattle.trace.specs.Write.{leadText, eventText, eventGood, eventAnswer};
+ghost use Rattle.trace.specs.Write.{eventText, eventGood, eventAnswer};
 use common::Written;
-
-// The word of a kind.
-fn kind_word(out: &mut [u8], at: usize, kind: u8) -> usize
-    requires { ⌜ at + 6 ≤ length (now out) ⌝ }
-    ensures { λ r. ⌜ LaidWithin 6 (kindText kind) (now (out .entry)) at (now (out .exit)) r ⌝ }
-{
-    if kind == trace::IN {
-        return common::lay(out, at, b"in");
-    }
-    if kind == trace::SEND {
-        return common::lay(out, at, b"send");
-    }
-    if kind == trace::RESEND {
-        return common::lay(out, at, b"resend");
-    }
-    if kind == trace::TAKE {
-        return common::lay(out, at, b"take");
-    }
-    if kind == trace::SWEEP {
-        return common::lay(out, at, b"sweep");
-    }
-    common::lay(out, at, b"ack")
-}
-
-// An event's lines up to its bytes.
-fn lead_lines(out: &mut [u8], tick: u32, kind: u8) -> usize
-    requires { ⌜ 43 ≤ length (now out) ⌝ }
-    ensures { λ r. ⌜ LaidWithin 43 (leadText tick kind) (now (out .entry)) 0 (now (out .exit)) r ⌝ }
-{
-    let at1 = text::field(out, 0, b"tick=", tick as u64, b"\n");
-    let at2 = common::lay(out, at1, b"kind=");
-    let at3 = kind_word(out, at2, kind);
-    common::lay(out, at3, b"\ndata=")
-}
 
 // The hex digit of a value below 16.
 fn digit_of(v: u8) -> u8
@@ -111,7 +76,7 @@ pub fn event(tick: u32, kind: u8, bytes: &[u8], out: &mut [u8]) -> Written
         return Written::Refused(16);
     }
     let mut lead = [0u8; 43];
-    let n = lead_lines(&mut lead, tick, kind);
+    let n = trace_lead::lines(&mut lead, tick, kind);
     if out.len() < n + 1 {
         return Written::Refused(14);
     }

@@ -10,7 +10,6 @@ use numbers::DataNumber;
 use sender::BlockPlace;
 use sender::NumberPlace;
 use sender::Sender;
-use sender::checking;
 
 // Does number n turn, in this state, with this flag?
 fn turns(state: u8, flag: bool, n: u64, upto: u64) -> bool
@@ -59,7 +58,7 @@ pub fn turn(s: Sender, flags: [bool; 32], upto: u64, number: u8, block: u8) -> S
     while k < DataNumber::WINDOW {
         let at = window::data_place(q.low);
         let p = q.numbers[at];
-        if !checking::passes(p.state) {
+        if !sender::passes(p.state) {
             break;
         }
         q.numbers[at] = NumberPlace {

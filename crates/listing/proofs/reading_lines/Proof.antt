@@ -48,14 +48,14 @@ returns-2 c = within-as (dummy-lines (c .before .before .before .before .before 
 enum-known-r-2 : tie.Need-enum-known-r-2
 enum-known-r-2 c = search needs
 
-packet-lines-requires : tie.Need-packet-lines-requires
-packet-lines-requires c κs = search needs
+lines-requires : tie.Need-lines-requires
+lines-requires c κs = search needs
 
 same-length-3 : tie.Need-same-length-3
 same-length-3 c = search needs
 
 returns-3 : tie.Need-returns-3
-returns-3 c = within-as (read-lines (c .before .before .before .before .before .r2 .given .1)) (c .before .before .packet-lines .ensures)
+returns-3 c = within-as (read-lines (c .before .before .before .before .before .r2 .given .1)) (c .before .before .lines .ensures)
 
 pub reading-lines-spec : {M : Type 1} → statement M
 reading-lines-spec =
@@ -75,6 +75,6 @@ reading-lines-spec =
     same-length-2
     returns-2
     enum-known-r-2
-    packet-lines-requires
+    lines-requires
     same-length-3
     returns-3)

@@ -4,7 +4,7 @@ use mathlib.Core.Path.{_≡_, refl}
 use native.Mathlib.Omega.{arith}
 use borrow.Author.Needs.{needs}
 use lib.ListN.{length, length-take, length-drop}
-use Rattle.stepping.specs.Steps.{endText}
+use Rattle.trace_state.specs.Steps.{endText}
 use Rattle.replayer.proofs.AllLines.{Ran, ran-start, ran-room, ran-line, ran-next, ran-end}
 use Rattle.replayer.proofs.run.Statement.{statement}
 use Rattle.replayer.proofs.run.Tie as tie

@@ -10,7 +10,7 @@ use Rattle.window.specs.Store.{size-right}
 use Rattle.sender.specs.Record.{longestSent, State, state, noBlock, blockAt}
 use Rattle.sender.specs.Consistent.{soundOf}
 use Rattle.sender.specs.Send.{lowestWaiting}
-use Rattle.sending.proofs.NewBlock.{sound-bounds}
+use Rattle.carrying.proofs.Told.{sound-bounds}
 use Rattle.resending.proofs.OldBlock.{lowest-some, block-short, part-short, datagram-is, Ready}
 use Rattle.resending.proofs.OldBlock.{resend-unsized, resend-unfit, resend-none, resend-used, resend-full, resend-roomless, resend-sent}
 use borrow.Author.Needs.{needs}

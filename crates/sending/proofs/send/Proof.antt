@@ -8,7 +8,8 @@ use Rattle.window.specs.Store.{size-right}
 use Rattle.sender.specs.Record.{State, state}
 use Rattle.sender.specs.Consistent.{soundOf}
 use Rattle.sender.specs.Send.{newDatagram}
-use Rattle.sending.proofs.NewBlock.{Open, sound-bounds, new-unsized, new-unfit, new-long, new-used, new-full, new-roomless, new-sent}
+use Rattle.carrying.proofs.Told.{sound-bounds}
+use Rattle.sending.proofs.NewBlock.{Open, new-unsized, new-unfit, new-long, new-used, new-full, new-roomless, new-sent}
 use borrow.Author.Needs.{needs}
 use Rattle.sending.proofs.send.Statement.{statement}
 use Rattle.sending.proofs.send.Tie as tie

@@ -1,0 +1,2 @@
+-- Laws that the calls' proofs cite.
+pub mod Told

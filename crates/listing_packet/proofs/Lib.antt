@@ -1,0 +1,2 @@
+-- The law that a function's proof cites.
+mod Twelve

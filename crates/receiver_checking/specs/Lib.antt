@@ -1,0 +1,2 @@
+-- What only the contracts of the check ask for.
+pub mod Checking
