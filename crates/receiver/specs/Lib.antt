@@ -1,6 +1,6 @@
 -- The receiver (document 01, "Receiver"): its record, what makes one inconsistent, and what each call answers and leaves; then its
 -- theorems, that what it writes reads back and no vector is shorter, that every call leaves it consistent and that the order of arrival does
--- not matter; last what only the code's contracts and the theorems' laws need.
+-- not matter; last the laws that the theorems and the calls' proofs cite.
 pub mod Record
 pub mod Fresh
 pub mod Consistent

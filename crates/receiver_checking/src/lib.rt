@@ -1,4 +1,4 @@
-// Is a record consistent? Places are looked at in their own order, and a block's place again only near the end of the full range.
+// Is a receiver's record consistent? Places are looked at in their own order, and a block's place again only near the end of the full range.
 ghost use mathlib.Core.Path.{_≡_};
 ghost use mathlib.Core.Bool.{not};
 ghost use Rattle.common.specs.Every.{allBelow};

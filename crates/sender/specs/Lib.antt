@@ -1,6 +1,6 @@
 -- The sender (document 01, "Sender"): its record, what makes one inconsistent, and what each call answers and leaves; then its theorems,
--- that every call leaves it consistent, that a sweep counts what it lost, and that the order of acknowledgements does not matter; last what
--- only the code's contracts and the theorems' laws need.
+-- that every call leaves it consistent, that a sweep counts what it lost, and that the order of acknowledgements does not matter; last the
+-- laws that the theorems and the calls' proofs cite.
 pub mod Record
 pub mod Fresh
 pub mod Consistent

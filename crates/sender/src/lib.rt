@@ -1,5 +1,5 @@
-// The sender's half of an endpoint: which data numbers are out, and which blocks they carry. Its calls stand in crates of their own:
-// `acknowledging`, `sweeping` and `sending`.
+// The sender's half of an endpoint: which data numbers are out, and which blocks they carry. Its calls stand in crates of their own,
+// `acknowledging`, `sweeping`, `sending` and `resending`, and the check of a record in `sender_checking`.
 // A record goes in by value and comes back by value; sent blocks stand in a store that the host lends, 1,225 bytes to a place.
 ghost use mathlib.Core.Path.{_≡_};
 ghost use mathlib.Core.Bool.{true, cond};

@@ -1,4 +1,4 @@
-// Is a record consistent? One pass over the numbers in range, then one over the numbers' places and one over the blocks'.
+// Is a sender's record consistent? One pass over the numbers in range, then one over the numbers' places and one over the blocks'.
 ghost use mathlib.Core.Path.{_≡_};
 ghost use mathlib.Core.Bool.{not};
 ghost use Prim.Native.Nat.{_%_};
