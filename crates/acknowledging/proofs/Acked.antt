@@ -4,7 +4,7 @@ use mathlib.Core.Bool.{true, false}
 use mathlib.Core.List.{List}
 use mathlib.Core.Path.{_≡_, refl, sym, _∙_, ap, subst}
 use lib.ListN.{replicate}
-use borrow.Author.Tests.{lt-ltb, le-ltb, lt-leb, le-leb, ne-eqb}
+use borrow.Author.Tests.{lt-ltb, le-ltb, lt-leb, le-leb, eq-eqb, ne-eqb}
 use Rattle.common.specs.Choice.{when, unless}
 use Rattle.numbers.specs.declared.DataNumber.{DataNumber}
 use Rattle.numbers.specs.declared.Widened.{Widened}
@@ -20,10 +20,11 @@ use Rattle.wire.specs.Read.{readOf}
 use Rattle.sender.specs.declared.Sender.{Sender}
 use Rattle.acknowledging.specs.declared.Walked.{Walked}
 use Rattle.acknowledging.specs.declared.Judged.{Judged}
+use Rattle.sender.specs.Record.{remembering}
 use Rattle.sender.specs.Consistent.{consistentOf}
 use Rattle.sender.specs.Turn.{turnedOf}
 use Rattle.turning.specs.Chosen.{chosenBy}
-use Rattle.sender.specs.Acknowledge.{acknowledging, toldBy, toldAnswer, toldOf, readAnswer, readInto, acknowledgeAnswer, acknowledgeOf}
+use Rattle.sender.specs.Acknowledge.{acknowledging, toldBy, toldAnswer, toldOf, packetOf, readAnswer, readInto, acknowledgeAnswer, acknowledgeOf}
 use Rattle.acknowledging.specs.Walk.{walkOf, nothing, judgeUpTo, fromWalk, judgeListed, appliedOf, applied-so}
 
 -- the number of no kind yet that was widened to
@@ -82,11 +83,6 @@ module _ (w : ℕ) where
   unfolding judgeListed
   listed-unclear firstdata low next a v h = rw (data-is DataUnclear a h) refl
 
-  -- a judged acknowledgement, applied
-  applied-not : (s : Sender) (j : Judged) → (j .answer ≡ 0 → ⊥) → s ≡ appliedOf w s j
-  unfolding appliedOf
-  applied-not s j h = unless _ _ _ _ (ne-eqb _ _ h) refl
-
   -- the whole call
   pub ack-unfit : (s : Sender) (d : List ℕ) → consistentOf w w s ≡ false → (13 ≡ acknowledgeAnswer w w s d) × (s ≡ acknowledgeOf w w s d)
   unfolding acknowledgeAnswer acknowledgeOf
@@ -102,19 +98,22 @@ module _ (w : ℕ) where
   ack-dummy s d h e =
       (when _ _ _ _ h (ap (readAnswer s d) e), when _ _ _ _ h (ap (readInto w s d) e))
 
-  ack-read : (s q : Sender) (d : List ℕ) (p : Packet) (j : Judged) → consistentOf w w s ≡ true → Read p ≡ readOf d → j .answer ≡ toldAnswer s (toldBy s d p)
-      → appliedOf w s j ≡ toldOf w s (toldBy s d p) → q ≡ appliedOf w s j → (j .answer ≡ acknowledgeAnswer w w s d) × (q ≡ acknowledgeOf w w s d)
+  ack-read : (s q : Sender) (d : List ℕ) (p : Packet) (n : ℕ) → consistentOf w w s ≡ true → Read p ≡ readOf d → n ≡ toldAnswer s (toldBy s d p)
+      → q ≡ packetOf w s d p → (n ≡ acknowledgeAnswer w w s d) × (q ≡ acknowledgeOf w w s d)
   unfolding acknowledgeAnswer acknowledgeOf readAnswer readInto
-  ack-read s q d p j h e a b c =
-      (when _ _ _ _ h (a ∙ ap (readAnswer s d) e), when _ _ _ _ h (c ∙ b ∙ ap (readInto w s d) e))
+  ack-read s q d p n h e a c =
+      (when _ _ _ _ h (a ∙ ap (readAnswer s d) e), when _ _ _ _ h (c ∙ ap (readInto w s d) e))
 
-  pub ack-kept : (s : Sender) (d : List ℕ) (p : Packet) (j : Judged) → consistentOf w w s ≡ true → Read p ≡ readOf d → j .answer ≡ toldAnswer s (toldBy s d p)
-      → appliedOf w s j ≡ toldOf w s (toldBy s d p) → (j .answer ≡ 0 → ⊥) → (j .answer ≡ acknowledgeAnswer w w s d) × (s ≡ acknowledgeOf w w s d)
-  ack-kept s d p j h e a b n = ack-read s s d p j h e a b (applied-not s j n)
+  pub ack-kept : (s : Sender) (d : List ℕ) (p : Packet) (n : ℕ) → consistentOf w w s ≡ true → Read p ≡ readOf d → n ≡ toldAnswer s (toldBy s d p)
+      → (n ≡ 0 → ⊥) → (n ≡ acknowledgeAnswer w w s d) × (s ≡ acknowledgeOf w w s d)
+  unfolding packetOf
+  ack-kept s d p n h e a z = ack-read s s d p n h e a (unless _ _ _ _ (ne-eqb _ _ (λ x. z (a ∙ x))) refl)
 
   pub ack-turned : (s q : Sender) (d : List ℕ) (p : Packet) (j : Judged) → consistentOf w w s ≡ true → Read p ≡ readOf d → j .answer ≡ toldAnswer s (toldBy s d p)
       → appliedOf w s j ≡ toldOf w s (toldBy s d p) → j .answer ≡ 0 → q ≡ turnedOf w acknowledging (chosenBy w (j .flags) (j .upto)) s
-      → (0 ≡ acknowledgeAnswer w w s d) × (q ≡ acknowledgeOf w w s d)
+      → (0 ≡ acknowledgeAnswer w w s d) × (remembering (p .values .logwindow) q ≡ acknowledgeOf w w s d)
+  unfolding packetOf
   ack-turned s q d p j h e a b z t =
-      let r = ack-read s q d p j h e a b (t ∙ sym (applied-so w s j z)) in
+      let r = ack-read s (remembering (p .values .logwindow) q) d p (j .answer) h e a
+      (when _ _ _ _ (eq-eqb _ _ (sym a ∙ z)) (ap (remembering (p .values .logwindow)) (t ∙ sym (applied-so w s j z) ∙ b))) in
       (sym z ∙ r .0, r .1)

@@ -223,7 +223,7 @@ pub fn judge(s: Sender, d: &[u8], p: Packet) -> Judged
     }
 }
 
-// Takes one datagram into the sender's half alone: what it acknowledges. Refused with 13, then as reading it, then with 8.
+// Takes one datagram into the sender's half alone: what it acknowledges, and its LogWindowSize. Refused with 13, then as reading it, then with 8.
 pub fn acknowledge(s: Sender, d: &[u8]) -> Acknowledged
     ensures answer { λ r. ⌜ r .answer ≡ acknowledgeAnswer 32 32 s (now (d .entry)) ⌝ }
     ensures record { λ r. ⌜ r .sender ≡ acknowledgeOf 32 32 s (now (d .entry)) ⌝ }
@@ -244,6 +244,7 @@ pub fn acknowledge(s: Sender, d: &[u8]) -> Acknowledged
             answer: 0,
         },
         Reading::Read(p) => {
+            let values = p.values;
             let j = judge(s, d, p);
             if j.answer != 0 {
                 return Acknowledged {
@@ -252,7 +253,8 @@ pub fn acknowledge(s: Sender, d: &[u8]) -> Acknowledged
                 };
             }
             let flags = j.flags;
-            let q = turning::turn(s, flags, j.upto, sender::RECEIVED, sender::ACKNOWLEDGED);
+            let mut q = turning::turn(s, flags, j.upto, sender::RECEIVED, sender::ACKNOWLEDGED);
+            q.logwindow = values.logwindow;
             Acknowledged {
                 sender: q,
                 answer: 0,

@@ -8,6 +8,7 @@ use Rattle.numbers.specs.Full.{highestFirst}
 use Rattle.receiver.specs.declared.Receiver.{Receiver}
 use Rattle.receiver.specs.Fresh as receiving
 use Rattle.sender.specs.declared.Sender.{Sender}
+use Rattle.sender.specs.Record.{remembering}
 use Rattle.sender.specs.Fresh as sending
 use Rattle.endpoint.specs.declared.Opened.{Opened}
 use Rattle.endpoint.specs.Open.{openAnswer, openedOf}
@@ -24,10 +25,10 @@ abbrev both : ℕ → Sender → Receiver → Opened
 both n s r = record { answer = n; sender = s; receiver = r }
 
 pub refused : (w n c t answer : ℕ) (s : Sender) (r : Receiver) → answer ≡ openAnswer n c t → (answer ≡ 0 → ⊥) → s ≡ sending.freshOf w 0 0 0 → r ≡ receiving.freshOf w 0 0
-    → both answer s r ≡ openedOf w n c t
+    → both answer (remembering 0 s) r ≡ openedOf w n c t
 unfolding openedOf
 refused w n c t answer s r e h x y =
-    rw (← e, ne-eqb answer 0 h) (ap (λ (s : Sender). both answer s r) x ∙ ap (both answer (sending.freshOf w 0 0 0)) y)
+    rw (← e, ne-eqb answer 0 h) (ap (λ (s : Sender). both answer (remembering 0 s) r) x ∙ ap (both answer (remembering 0 (sending.freshOf w 0 0 0))) y)
 
 pub opens : (w n c t answer : ℕ) (s : Sender) (r : Receiver) → answer ≡ openAnswer n c t → answer ≡ 0 → s ≡ sending.freshOf w n c t → r ≡ receiving.freshOf w n c
     → both 0 s r ≡ openedOf w n c t

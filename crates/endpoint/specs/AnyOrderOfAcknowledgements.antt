@@ -1,30 +1,32 @@
 -- Demand 3, second half, for the endpoint: "with no send, resend or sweep between, any set of packets carrying an acknowledgement only, in any order, repeats included,
--- is accepted or refused alike, and a pending packet becomes received exactly if an accepted one names it." The outset e is any endpoint whose two halves are as
--- receiving asks. By the calls cs the acknowledgements ds are received, with the events es between, takes and datagrams with no acknowledgement (Between, in
+-- is accepted or refused alike, and a pending packet becomes received exactly if an accepted one names it"; and, by document 02's W5, "all carrying the same
+-- LogWindowSize", which is asked only of what is said of the field. The outset e is any endpoint whose two halves are as receiving asks. By the calls cs the acknowledgements ds are received, with the events es between, takes and datagrams with no acknowledgement (Between, in
 -- History.antt).
 use Prim.Native.Nat.{ℕ, _≤_, _<_}
-use mathlib.Core.Bool.{true}
+use mathlib.Core.Bool.{Bool, true, false, cond, _||_}
 use mathlib.Core.List.{List, [], _∷_, map, List·Memᴰ·head, List·Memᴰ·tail}
 use mathlib.Core.Path.{_≡_, refl, sym, _∙_, ap}
 use lib.ListN.{length}
+use Rattle.common.specs.Facts.{not-so}
 use Rattle.window.specs.Members.{In}
 use Rattle.wire.specs.declared.Packet.{Packet}
 use Rattle.wire.specs.declared.Reading.the-variants.{Read}
 use Rattle.wire.specs.Read.{readOf}
 use Rattle.receiver.specs.Consistent as receiverTests
-use Rattle.receiver.specs.History.{Event, runOf}
+use Rattle.receiver.specs.History.{Event, runOf, datagramsOf}
 use Rattle.sender.specs.declared.Sender.{Sender}
 use Rattle.sender.specs.Consistent as senderTests
-use Rattle.sender.specs.Record.{isPending, numberAt}
+use Rattle.sender.specs.Record.{isPending, remembering, numberAt}
 use Rattle.sender.specs.Turn.{turnedOf}
 use Rattle.sender.specs.Acknowledge.{acknowledging, toldNames, toldBy}
-use Rattle.sender.specs.Run.{run, Named, namedIn, hasReceived}
+use Rattle.sender.specs.Remembering.{Sized, consistent-remembering, acknowledge-answers}
+use Rattle.sender.specs.Run.{run, Accepted, acceptedIn, accepted-at, accepted-from, same-accepted, Named, namedIn, hasReceived}
 use Rattle.sender.specs.AnyOrder as alone
 use Rattle.endpoint.specs.Receive.{Halves, receiverOf, soundOf, receiveAnswer}
 use Rattle.endpoint.specs.Calls.{Endpoint, Call, receives, callsOf}
-use Rattle.endpoint.specs.History.{OnlyAck, NoAck, Between, nothing, tells, after, handed, handedBy}
+use Rattle.endpoint.specs.History.{OnlyAck, NoAck, Between, nothing, tells, after, handed, handedBy, broughtIn}
 use Rattle.endpoint.specs.Steps.{paired, sound-halves, ack-answer, no-ack-answer}
-use Rattle.endpoint.specs.Follows.{with, both, after-is, handed-is, between-plain, between-acks, between-is, between-hands, run-sound}
+use Rattle.endpoint.specs.Follows.{both, Comes, after-is, handed-is, between-plain, between-acks, between-is, between-field, between-hands, run-sound}
 
 -- some datagram of the list reads, is accepted at the outset, and names number n
 pub record NamedBy (w cap : ℕ) (e : Halves) (ds : List (List ℕ)) (n : ℕ) : Type 0 where
@@ -34,6 +36,14 @@ pub record NamedBy (w cap : ℕ) (e : Halves) (ds : List (List ℕ)) (n : ℕ) :
   pub reads : readOf datagram ≡ Read packet
   pub accepted : receiveAnswer w cap e datagram ≡ 0
   pub names : toldNames (toldBy (e .sender) datagram packet) n ≡ true
+
+-- some datagram of the list is a packet of type 0, and accepted at the outset
+pub record AcceptedBy (w cap : ℕ) (e : Halves) (ds : List (List ℕ)) : Type 0 where
+  pub datagram : List ℕ
+  pub listed : In datagram ds
+  pub packet : Packet
+  pub reads : readOf datagram ≡ Read packet
+  pub accepted : receiveAnswer w cap e datagram ≡ 0
 
 -- Acknowledgements received in turn, with nothing between, are such a history.
 pub in-turn : (ds : List (List ℕ)) → ((d : List ℕ) → In d ds → OnlyAck d) → Between (map receives ds) ds []
@@ -49,18 +59,26 @@ module _ (w cap : ℕ) (lw : 0 < w) (uw : w ≤ cap) (e : Endpoint) (h : soundOf
 
   module _ (cs : List Call) (ds : List (List ℕ)) (es : List Event) (b : Between cs ds es) where
     -- The history as its halves'.
-    same : callsOf w cap e cs ≡ both (e .sent) (run w cap (e .halves .sender) ds) (runOf w cap (receiverOf (e .halves)) es)
-    same = between-is w cap lw uw (e .sent) b (e .halves .sender) (receiverOf (e .halves)) sender-sound receiver-sound
+    same : Comes (e .sent) (run w cap (e .halves .sender) ds) (runOf w cap (receiverOf (e .halves)) es) (callsOf w cap e cs)
+    same = between-is w cap lw uw (e .sent) b (e .halves .sender .logwindow) (e .halves .sender) (receiverOf (e .halves)) sender-sound receiver-sound
 
-    apart : after w cap e es ≡ with e (runOf w cap (receiverOf (e .halves)) es)
-    apart = after-is w cap e sender-sound (receiverOf (e .halves)) es (between-plain b)
+    apart : Comes (e .sent) (e .halves .sender) (runOf w cap (receiverOf (e .halves)) es) (after w cap e es)
+    apart = after-is w cap (e .sent) (e .halves .sender) sender-sound (e .halves .sender .logwindow) (receiverOf (e .halves)) es (between-plain b)
+
+    -- the LogWindowSize that is remembered after the history, and after what stands between alone
+    abbrev field : ℕ
+    field = callsOf w cap e cs .halves .sender .logwindow
+
+    abbrev fieldApart : ℕ
+    fieldApart = after w cap e es .halves .sender .logwindow
 
     -- "accepted or refused alike": at every moment each acknowledgement gets the answer that it gets at the outset.
     pub answered-alike : (d : List ℕ) → OnlyAck d → receiveAnswer w cap (callsOf w cap e cs .halves) d ≡ receiveAnswer w cap (e .halves) d
     answered-alike d o =
         ap (λ (x : Endpoint). receiveAnswer w cap (x .halves) d) same
-        ∙ ack-answer w cap (paired (run w cap (e .halves .sender) ds) (runOf w cap (receiverOf (e .halves)) es)) d o
+        ∙ ack-answer w cap (paired (remembering field (run w cap (e .halves .sender) ds)) (runOf w cap (receiverOf (e .halves)) es)) d o
         (run-sound w cap lw uw (receiverOf (e .halves)) es receiver-sound)
+        ∙ acknowledge-answers field w cap (run w cap (e .halves .sender) ds) d
         ∙ alone.answered-alike w cap lw uw (e .halves .sender) sender-sound ds d
         ∙ sym (ack-answer w cap (e .halves) d o receiver-sound)
 
@@ -72,25 +90,69 @@ module _ (w cap : ℕ) (lw : 0 < w) (uw : w ≤ cap) (e : Endpoint) (h : soundOf
     pub others-alone : (d : List ℕ) → NoAck d → receiveAnswer w cap (callsOf w cap e cs .halves) d ≡ receiveAnswer w cap (after w cap e es .halves) d
     others-alone d o =
         ap (λ (x : Endpoint). receiveAnswer w cap (x .halves) d) same
-        ∙ no-ack-answer w cap (paired (run w cap (e .halves .sender) ds) (runOf w cap (receiverOf (e .halves)) es)) d o
-        (alone.end-consistent w cap lw uw (e .halves .sender) sender-sound ds)
-        ∙ sym (no-ack-answer w cap (with e (runOf w cap (receiverOf (e .halves)) es) .halves) d o sender-sound)
+        ∙ no-ack-answer w cap (paired (remembering field (run w cap (e .halves .sender) ds)) (runOf w cap (receiverOf (e .halves)) es)) d o
+        (consistent-remembering field w cap (run w cap (e .halves .sender) ds) ∙ alone.end-consistent w cap lw uw (e .halves .sender) sender-sound ds)
+        ∙ sym (no-ack-answer w cap (paired (remembering fieldApart (e .halves .sender)) (runOf w cap (receiverOf (e .halves)) es)) d o
+        (consistent-remembering fieldApart w cap (e .halves .sender) ∙ sender-sound))
         ∙ sym (ap (λ (x : Endpoint). receiveAnswer w cap (x .halves) d) apart)
 
     pub handed-alone : handedBy w cap e cs ≡ handed w cap e es
     handed-alone =
-        between-hands w cap lw uw (e .sent) b (e .halves .sender) (receiverOf (e .halves)) sender-sound receiver-sound
-        ∙ sym (handed-is w cap e sender-sound (receiverOf (e .halves)) es (between-plain b))
+        between-hands w cap lw uw (e .sent) b (e .halves .sender .logwindow) (e .halves .sender) (receiverOf (e .halves)) sender-sound receiver-sound
+        ∙ sym (handed-is w cap (e .sent) (e .halves .sender) sender-sound (e .halves .sender .logwindow) (receiverOf (e .halves)) es (between-plain b))
 
-    -- The sender's store is as at the outset, and its half is the outset's with all that an accepted datagram names turned to received.
+    -- The sender's store is as at the outset, and its half is the outset's with all that an accepted datagram names turned to received, and the LogWindowSize that is
+    -- remembered.
     pub sent-stays : callsOf w cap e cs .sent ≡ e .sent
     sent-stays = ap (λ (x : Endpoint). x .sent) same
 
-    pub end-is : callsOf w cap e cs .halves .sender ≡ turnedOf w acknowledging (namedIn w cap (e .halves .sender) ds) (e .halves .sender)
-    end-is = ap (λ (x : Endpoint). x .halves .sender) same ∙ alone.end-is w cap lw uw (e .halves .sender) sender-sound ds
+    pub end-is : callsOf w cap e cs .halves .sender
+        ≡ remembering (callsOf w cap e cs .halves .sender .logwindow) (turnedOf w acknowledging (namedIn w cap (e .halves .sender) ds) (e .halves .sender))
+    end-is =
+        ap (λ (x : Endpoint). x .halves .sender) same
+        ∙ ap (remembering field) (alone.end-is w cap lw uw (e .halves .sender) sender-sound ds)
 
     only : (d : List ℕ) → In d ds → OnlyAck d
     only = between-acks b
+
+    -- "all carrying the same LogWindowSize": it is remembered exactly if a packet is accepted, one of the acknowledgements or one of what stands between. Refused ones
+    -- change nothing.
+    module _ (size : ℕ) (acks : (d : List ℕ) → In d ds → Sized size d) (others : (d : List ℕ) → In d (datagramsOf es) → Sized size d) where
+      pub window-is : callsOf w cap e cs .halves .sender .logwindow
+          ≡ cond (acceptedIn w cap (e .halves .sender) ds || broughtIn w cap (receiverOf (e .halves)) es) size (e .halves .sender .logwindow)
+      window-is =
+          between-field w cap lw uw (e .sent) b size (e .halves .sender .logwindow) (e .halves .sender) (receiverOf (e .halves)) sender-sound receiver-sound acks others
+
+      pub window-moves : AcceptedBy w cap (e .halves) ds → callsOf w cap e cs .halves .sender .logwindow ≡ size
+      window-moves k =
+          window-is
+          ∙ ap (λ (x : Bool). cond (x || broughtIn w cap (receiverOf (e .halves)) es) size (e .halves .sender .logwindow))
+          (accepted-from w cap (e .halves .sender) ds
+          (record {
+            datagram = k .datagram;
+            listed = k .listed;
+            packet = k .packet;
+            reads = k .reads;
+            accepted = sym (ack-answer w cap (e .halves) (k .datagram) (only (k .datagram) (k .listed)) receiver-sound) ∙ k .accepted;
+          }))
+
+      pub window-stays : (AcceptedBy w cap (e .halves) ds → ⊥) → broughtIn w cap (receiverOf (e .halves)) es ≡ false
+          → callsOf w cap e cs .halves .sender .logwindow ≡ e .halves .sender .logwindow
+      window-stays none quiet =
+          window-is
+          ∙ ap (λ (x : Bool). cond (acceptedIn w cap (e .halves .sender) ds || x) size (e .halves .sender .logwindow)) quiet
+          ∙ ap (λ (x : Bool). cond (x || false) size (e .halves .sender .logwindow))
+          (not-so (acceptedIn w cap (e .halves .sender) ds) (λ t. none (accepted-here (accepted-at w cap (e .halves .sender) ds t))))
+        where
+          accepted-here : Accepted w cap (e .halves .sender) ds → AcceptedBy w cap (e .halves) ds
+          accepted-here k =
+              record {
+                datagram = k .datagram;
+                listed = k .listed;
+                packet = k .packet;
+                reads = k .reads;
+                accepted = ack-answer w cap (e .halves) (k .datagram) (only (k .datagram) (k .listed)) receiver-sound ∙ k .accepted;
+              }
 
     -- A number that is pending at the outset is received at the end exactly if some accepted datagram names it.
     module _ (n : ℕ) (l : e .halves .sender .low .0 ≤ n) (u : n < e .halves .sender .next .0) (p : isPending (numberAt w (e .halves .sender) n) ≡ true) where
@@ -128,18 +190,41 @@ module _ (w cap : ℕ) (lw : 0 < w) (uw : w ≤ cap) (e : Endpoint) (h : soundOf
           from-sender (alone.received-only-if w cap lw uw (e .halves .sender) sender-sound ds n l u p
           (sym (ap (λ (x : Endpoint). hasReceived w (x .halves .sender) n) same) ∙ t))
 
-  -- "in any order, repeats included": two histories whose acknowledgements have the same members leave the same sender's half, whatever stands between.
-  module _ (cs ks : List Call) (ds fs : List (List ℕ)) (there : (d : List ℕ) → In d ds → In d fs) (back : (d : List ℕ) → In d fs → In d ds) where
+  -- "in any order, repeats included": two histories whose acknowledgements have the same members, with whatever between, all carrying the same LogWindowSize, leave the
+  -- same sender's half, if a packet is accepted in both or in neither.
+  module _ (size : ℕ) (cs ks : List Call) (ds fs : List (List ℕ)) (acks : (d : List ℕ) → In d ds → Sized size d)
+      (there : (d : List ℕ) → In d ds → In d fs) (back : (d : List ℕ) → In d fs → In d ds) where
     runs : run w cap (e .halves .sender) ds ≡ run w cap (e .halves .sender) fs
-    runs = alone.any-order w cap lw uw (e .halves .sender) sender-sound ds fs there back
+    runs = alone.any-order w cap lw uw (e .halves .sender) sender-sound size ds fs acks there back
 
-    pub any-order : (es gs : List Event) → Between cs ds es → Between ks fs gs → callsOf w cap e cs .halves .sender ≡ callsOf w cap e ks .halves .sender
-    any-order es gs b k =
-        ap (λ (x : Endpoint). x .halves .sender) (same cs ds es b) ∙ runs ∙ sym (ap (λ (x : Endpoint). x .halves .sender) (same ks fs gs k))
+    -- is a packet accepted, one of the acknowledgements or one of what stands between?
+    abbrev pub heard : List Event → Bool
+    heard es = acceptedIn w cap (e .halves .sender) ds || broughtIn w cap (receiverOf (e .halves)) es
+
+    fields : (es gs : List Event) → Between cs ds es → Between ks fs gs → ((d : List ℕ) → In d (datagramsOf es) → Sized size d)
+        → ((d : List ℕ) → In d (datagramsOf gs) → Sized size d) → heard es ≡ heard gs
+        → callsOf w cap e cs .halves .sender .logwindow ≡ callsOf w cap e ks .halves .sender .logwindow
+    fields es gs b k x y h =
+        window-is cs ds es b size acks x
+        ∙ ap (λ (z : Bool). cond z size (e .halves .sender .logwindow)) h
+        ∙ ap (λ (z : Bool). cond (z || broughtIn w cap (receiverOf (e .halves)) gs) size (e .halves .sender .logwindow))
+        (same-accepted w cap (e .halves .sender) ds fs there back)
+        ∙ sym (window-is ks fs gs k size (λ d i. acks d (back d i)) y)
+
+    pub any-order : (es gs : List Event) → Between cs ds es → Between ks fs gs → ((d : List ℕ) → In d (datagramsOf es) → Sized size d)
+        → ((d : List ℕ) → In d (datagramsOf gs) → Sized size d) → heard es ≡ heard gs
+        → callsOf w cap e cs .halves .sender ≡ callsOf w cap e ks .halves .sender
+    any-order es gs b k x y h =
+        ap (λ (z : Endpoint). z .halves .sender) (same cs ds es b)
+        ∙ ap (remembering (callsOf w cap e cs .halves .sender .logwindow)) runs
+        ∙ ap (λ (j : ℕ). remembering j (run w cap (e .halves .sender) fs)) (fields es gs b k x y h)
+        ∙ sym (ap (λ (z : Endpoint). z .halves .sender) (same ks fs gs k))
 
     -- With the same events between, they leave the same endpoint.
-    pub same-end : (es : List Event) → Between cs ds es → Between ks fs es → callsOf w cap e cs ≡ callsOf w cap e ks
-    same-end es b k =
+    pub same-end : (es : List Event) → Between cs ds es → Between ks fs es → ((d : List ℕ) → In d (datagramsOf es) → Sized size d)
+        → callsOf w cap e cs ≡ callsOf w cap e ks
+    same-end es b k x =
         same cs ds es b
-        ∙ ap (λ (s : Sender). both (e .sent) s (runOf w cap (receiverOf (e .halves)) es)) runs
+        ∙ ap (λ (s : Sender). both (e .sent) (remembering (callsOf w cap e cs .halves .sender .logwindow) s) (runOf w cap (receiverOf (e .halves)) es)) runs
+        ∙ ap (λ (j : ℕ). both (e .sent) (remembering j (run w cap (e .halves .sender) fs)) (runOf w cap (receiverOf (e .halves)) es)) (fields es es b k x x refl)
         ∙ sym (same ks fs es k)

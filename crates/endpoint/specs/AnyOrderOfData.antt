@@ -1,10 +1,12 @@
 -- Demand 3, first half, for the endpoint: "take packets of data, with or without AckOfAcks, whose numbers all lie in the receiver's windows at the outset .., where
--- equal channel numbers carry equal contents. Whatever order they come in, with repeats, and blocks taken at any moment between". The datagrams ds are such a set
--- (the receiver's Set.antt) at the outset e, whose sender's half is consistent too; after is what a history of datagrams and takes leaves.
+-- equal channel numbers carry equal contents. Whatever order they come in, with repeats, and blocks taken at any moment between"; and, by document 02's W5, "all
+-- carrying the same LogWindowSize". The datagrams ds are such a set (the receiver's Set.antt) at the outset e, whose sender's half is consistent too; after is what a
+-- history of datagrams and takes leaves.
 use Prim.Native.Nat.{ℕ}
-use mathlib.Core.Bool.{true}
-use mathlib.Core.List.{List, _++_}
-use mathlib.Core.Path.{_≡_, sym, _∙_, ap, subst}
+use mathlib.Core.Bool.{Bool, true, false, cond}
+use mathlib.Core.List.{List, [], _∷_, _++_, List·Memᴰ·head}
+use mathlib.Core.Path.{_≡_, refl, sym, _∙_, ap, subst}
+use Rattle.common.specs.Facts.{clash}
 use Rattle.window.specs.Store.{placeSize}
 use Rattle.window.specs.Members.{In}
 use Rattle.receiver.specs.Take.{takeAnswer}
@@ -14,12 +16,21 @@ use Rattle.receiver.specs.Set.{Set, From, Covers}
 use Rattle.receiver.specs.AnyOrder.{itemsOf, readyOf}
 use Rattle.receiver.specs.AnyOrder as alone
 use Rattle.receiver.specs.Order.Runs.{takes-bring}
+use Rattle.sender.specs.declared.Sender.{Sender}
+use Rattle.sender.specs.Record.{remembering}
 use Rattle.sender.specs.Consistent as senderTests
+use Rattle.sender.specs.Remembering.{Sized, consistent-remembering}
 use Rattle.endpoint.specs.Receive.{receiverOf, receiveAnswer}
 use Rattle.endpoint.specs.Calls.{Endpoint}
 use Rattle.endpoint.specs.History.{OnlyData, after, handed}
 use Rattle.endpoint.specs.Steps.{paired, data-no-ack, no-ack-answer}
-use Rattle.endpoint.specs.Follows.{with, Plain, after-is, handed-is}
+use Rattle.endpoint.specs.Follows.{Comes, Plain, after-is, after-field, handed-is}
+use Rattle.endpoint.specs.Brought.{isAny, any-in, brought-all}
+
+-- the sender's half once such datagrams have come: as at the outset, and if there was one their LogWindowSize is remembered
+abbrev pub heardFrom : ℕ → List (List ℕ) → Sender → Sender
+heardFrom size [] s = s
+heardFrom size (d ∷ ds) s = remembering size s
 
 module _ (w cap : ℕ) (e : Endpoint) (ds : List (List ℕ)) (set : Set w cap (receiverOf (e .halves)) ds)
     (s : senderTests.consistentOf w cap (e .halves .sender) ≡ true) (only : (d : List ℕ) → In d ds → OnlyData d) where
@@ -27,22 +38,50 @@ module _ (w cap : ℕ) (e : Endpoint) (ds : List (List ℕ)) (set : Set w cap (r
   plain es from d i = data-no-ack d (only d (from d i))
 
   -- The history as its receiver's.
-  same : (es : List Event) → From ds es → after w cap e es ≡ with e (runOf w cap (receiverOf (e .halves)) es)
-  same es from = after-is w cap e s (receiverOf (e .halves)) es (plain es from)
+  same : (es : List Event) → From ds es → Comes (e .sent) (e .halves .sender) (runOf w cap (receiverOf (e .halves)) es) (after w cap e es)
+  same es from = after-is w cap (e .sent) (e .halves .sender) s (e .halves .sender .logwindow) (receiverOf (e .halves)) es (plain es from)
 
   -- Every datagram of the set is accepted at every moment of every history of the set.
   pub all-accepted : (es : List Event) → From ds es → (d : List ℕ) → In d ds → receiveAnswer w cap (after w cap e es .halves) d ≡ 0
   all-accepted es from d i =
       ap (λ (x : Endpoint). receiveAnswer w cap (x .halves) d) (same es from)
-      ∙ no-ack-answer w cap (paired (e .halves .sender) (runOf w cap (receiverOf (e .halves)) es)) d (data-no-ack d (only d i)) s
+      ∙ no-ack-answer w cap (paired (remembering field (e .halves .sender)) (runOf w cap (receiverOf (e .halves)) es)) d (data-no-ack d (only d i))
+      (consistent-remembering field w cap (e .halves .sender) ∙ s)
       ∙ alone.all-accepted w cap (receiverOf (e .halves)) ds set es from d i
+    where
+      field : ℕ
+      field = after w cap e es .halves .sender .logwindow
 
-  -- At every moment the sender's half and its store are as at the outset.
-  pub sender-stays : (es : List Event) → From ds es → (after w cap e es .halves .sender ≡ e .halves .sender) × (after w cap e es .sent ≡ e .sent)
-  sender-stays es from = (ap (λ (x : Endpoint). x .halves .sender) (same es from), ap (λ (x : Endpoint). x .sent) (same es from))
+  -- At every moment the sender's store is as at the outset, and so is its half, but for the LogWindowSize: that of the set once a datagram has come.
+  module _ (size : ℕ) (sized : (d : List ℕ) → In d ds → Sized size d) where
+    pub sender-hears : (es : List Event) → From ds es
+        → (after w cap e es .halves .sender ≡ heardFrom size (datagramsOf es) (e .halves .sender)) × (after w cap e es .sent ≡ e .sent)
+    sender-hears es from = (
+      ap (λ (x : Endpoint). x .halves .sender) (same es from)
+          ∙ ap (λ (k : ℕ). remembering k (e .halves .sender))
+          (after-field w cap (e .sent) (e .halves .sender) s size (e .halves .sender .logwindow) (receiverOf (e .halves)) es (plain es from) (λ d i. sized d (from d i))
+          ∙ ap (λ (b : Bool). cond b size (e .halves .sender .logwindow)) (brought-all w cap (receiverOf (e .halves)) ds set es from))
+          ∙ told (datagramsOf es),
+      ap (λ (x : Endpoint). x .sent) (same es from),
+    )
+      where
+        told : (fs : List (List ℕ)) → remembering (cond (isAny fs) size (e .halves .sender .logwindow)) (e .halves .sender) ≡ heardFrom size fs (e .halves .sender)
+        told [] = refl
+        told (f ∷ fs) = refl
+
+    -- Once each has come it is determined by the outset and that size: as at the outset but for the field, if the set is not empty.
+    pub sender-is : (es : List Event) → From ds es → Covers ds es → after w cap e es .halves .sender ≡ heardFrom size ds (e .halves .sender)
+    sender-is es from covers = sender-hears es from .0 ∙ alike (datagramsOf es) ds from covers
+      where
+        alike : (fs gs : List (List ℕ)) → ((d : List ℕ) → In d fs → In d gs) → ((d : List ℕ) → In d gs → In d fs)
+            → heardFrom size fs (e .halves .sender) ≡ heardFrom size gs (e .halves .sender)
+        alike [] [] there back = refl
+        alike [] (g ∷ gs) there back = clash false (any-in g [] (back g (List·Memᴰ·head refl))) refl
+        alike (f ∷ fs) [] there back = clash false (any-in f [] (there f (List·Memᴰ·head refl))) refl
+        alike (f ∷ fs) (g ∷ gs) there back = refl
 
   -- Once all have come and the last ready block is taken, the blocks handed over in all are the unbroken run from the next one due, each once, in order, and the
-  -- record is the one that the outset and the set's numbers and lengths determine.
+  -- receiver's record is the one that the outset and the set's numbers and lengths determine.
   pub any-order : (es : List Event) → From ds es → Covers ds es → (room : ℕ)
       → takeAnswer w cap (receiverOf (after w cap e es .halves)) room ≡ 11
       → (handed w cap e es ≡ readyOf w (receiverOf (e .halves)) ds)
@@ -50,7 +89,7 @@ module _ (w cap : ℕ) (e : Endpoint) (ds : List (List ℕ)) (set : Set w cap (r
   any-order es from covers room ready =
       let (h, r) = alone.any-order w cap (receiverOf (e .halves)) ds set es from covers room
       (sym (ap (λ (x : Endpoint). takeAnswer w cap (receiverOf (x .halves)) room) (same es from)) ∙ ready) in
-      (handed-is w cap e s (receiverOf (e .halves)) es (plain es from) ∙ h, ap (λ (x : Endpoint). x .halves .receiver) (same es from) ∙ r)
+      (handed-is w cap (e .sent) (e .halves .sender) s (e .halves .sender .logwindow) (receiverOf (e .halves)) es (plain es from) ∙ h, ap (λ (x : Endpoint). x .halves .receiver) (same es from) ∙ r)
 
   -- The same with nothing asked of the end: w takes with room for any block leave nothing ready.
   pub any-order-taken : (es : List Event) → From ds es → Covers ds es

@@ -27,6 +27,7 @@ use Rattle.receiver.specs.Determined.{inside, heldIn, hasBy, dueBy, blockIn, bo
 use Rattle.receiver.specs.History.{Event, arrives, takes, datagramsOf, takesOf}
 use Rattle.receiver.specs.Set.{packetAt, From, Covers}
 use Rattle.sender.specs.Acknowledge.{toldNames, toldBy}
+use Rattle.sender.specs.Remembering.{Sized}
 use Rattle.sender.specs.Run.{hasReceived}
 use Rattle.sender.specs.Outset.{fresh-consistent, oneOut, one-consistent, oneAck, one-acknowledged}
 use Rattle.endpoint.specs.Open.{openAnswer}
@@ -56,6 +57,10 @@ read-once p q e = cc
 -- the flags of a datagram that reads as found
 pub flags-of : (d : List ℕ) (n : ℕ) → readOf d ≡ Read (found d) → found d .values .flags ≡ n → (p : Packet) → readOf d ≡ Read p → p .values .flags ≡ n
 flags-of d n r f p q = ap (λ (x : Packet). x .values .flags) (read-once p (found d) (sym q ∙ r)) ∙ f
+
+-- the LogWindowSize of one
+pub size-of : (d : List ℕ) (n : ℕ) → readOf d ≡ Read (found d) → found d .values .logwindow ≡ n → Sized n d
+size-of d n r f p q = ap (λ (x : Packet). x .values .logwindow) (read-once p (found d) (sym q ∙ r)) ∙ f
 
 abbrev pub Reads : List ℕ → ℕ → Type 0
 Reads d n = (readOf d ≡ Read (found d)) × (found d .values .flags ≡ n)

@@ -1,54 +1,82 @@
 -- The laws that the two theorems on order stand on: a history of an endpoint is that of the half which its datagrams reach.
 use Prim.Native.Nat.{ℕ, _≤_, _<_}
-use mathlib.Core.Bool.{true}
+use mathlib.Core.Bool.{Bool, true, false, cond, _||_}
 use mathlib.Core.List.{List, [], _∷_, _++_, List·Memᴰ·head, List·Memᴰ·tail}
 use mathlib.Core.Path.{_≡_, refl, sym, _∙_, ap, subst}
 use lib.ListN.{length}
 use Rattle.window.specs.Members.{In}
 use Rattle.receiver.specs.Record as receiving
 use Rattle.receiver.specs.Consistent as receiverTests
+use Rattle.receiver.specs.Receive as receiver
 use Rattle.receiver.specs.History.{Event, arrives, takes, stepOf, runOf, handedOf, datagramsOf}
 use Rattle.receiver.specs.StaysConsistent.{receive-keeps, take-keeps}
 use Rattle.sender.specs.declared.Sender.{Sender}
 use Rattle.sender.specs.Consistent as senderTests
-use Rattle.sender.specs.Acknowledge.{acknowledgeOf}
-use Rattle.sender.specs.Run.{run}
+use Rattle.sender.specs.Record.{remembering}
+use Rattle.sender.specs.Acknowledge.{acknowledgeAnswer, acknowledgeOf}
+use Rattle.sender.specs.Remembering.{heardOf, Sized, heard-sized, consistent-remembering, acknowledge-remembers}
+use Rattle.sender.specs.Remembering as remembers
+use Rattle.sender.specs.Run.{run, anyOf, acceptedIn, accepted-alike, or-assoc, later-or}
+use Rattle.sender.specs.AnyOrder.{answered-alike}
 use Rattle.sender.specs.StaysConsistent.{acknowledge-keeps}
 use Rattle.endpoint.specs.Receive.{Halves}
 use Rattle.endpoint.specs.Calls.{Endpoint, Call, receives, callOf, callsOf}
-use Rattle.endpoint.specs.History.{NoAck, OnlyAck, callFor, after, givenBy, handedBy, handed, Between, nothing, tells, brings, taken, written}
+use Rattle.endpoint.specs.History.{NoAck, OnlyAck, callFor, after, givenBy, handedBy, handed, Between, nothing, tells, brings, taken, written, broughtIn}
 use Rattle.endpoint.specs.Steps.{paired, no-ack-of, ack-of}
 
--- the outset with its receiver's half in some state
-abbrev pub with : Endpoint → receiving.State → Endpoint
-with e r = record { halves = paired (e .halves .sender) r; sent = e .sent }
+-- the halves in some states, with the sender's store
+abbrev pub both : List ℕ → Sender → receiving.State → Endpoint
+both sent s r = record { halves = paired s r; sent = sent }
+
+-- an endpoint with these halves and this store, whatever LogWindowSize its sender's half remembers
+abbrev pub Comes : List ℕ → Sender → receiving.State → Endpoint → Type 0
+Comes sent s r x = x ≡ both sent (remembering (x .halves .sender .logwindow) s) r
 
 -- none of the datagrams has an acknowledgement
 abbrev pub Plain : List (List ℕ) → Type 0
 Plain ds = (d : List ℕ) → In d ds → NoAck d
 
--- The endpoint's history is its receiver's; the sender's half stays as it was.
-module _ (w cap : ℕ) (e : Endpoint) (s : senderTests.consistentOf w cap (e .halves .sender) ≡ true) where
-  arrived : (r : receiving.State) (d : List ℕ) → NoAck d → callOf w cap (with e r) (callFor (arrives d)) ≡ with e (stepOf w cap r (arrives d))
+-- The endpoint's history is its receiver's; the sender's half stays as it was, but for the LogWindowSize.
+module _ (w cap : ℕ) (sent : List ℕ) (s : Sender) (h : senderTests.consistentOf w cap s ≡ true) where
+  arrived : (k : ℕ) (r : receiving.State) (d : List ℕ) → NoAck d
+      → callOf w cap (both sent (remembering k s) r) (callFor (arrives d))
+      ≡ both sent (remembering (heardOf (receiver.receiveAnswer w cap r d) d k) s) (stepOf w cap r (arrives d))
   unfolding callOf
-  arrived r d only = ap (λ (h : Halves). record { halves = h; sent = e .sent }) (no-ack-of w cap (paired (e .halves .sender) r) d only s)
+  arrived k r d only =
+      ap (λ (x : Halves). record { halves = x; sent = sent })
+      (no-ack-of w cap (paired (remembering k s) r) d only (consistent-remembering k w cap s ∙ h))
 
-  pub after-is : (r : receiving.State) (es : List Event) → Plain (datagramsOf es) → after w cap (with e r) es ≡ with e (runOf w cap r es)
+  pub after-is : (k : ℕ) (r : receiving.State) (es : List Event) → Plain (datagramsOf es)
+      → Comes sent s (runOf w cap r es) (after w cap (both sent (remembering k s) r) es)
   unfolding callsOf callOf runOf datagramsOf
-  after-is r [] only = refl
-  after-is r (arrives d ∷ es) only =
-      ap (λ (x : Endpoint). after w cap x es) (arrived r d (only d (List·Memᴰ·head refl)))
-      ∙ after-is (stepOf w cap r (arrives d)) es (λ x i. only x (List·Memᴰ·tail i))
-  after-is r (takes room ∷ es) only = after-is (stepOf w cap r (takes room)) es only
+  after-is k r [] only = refl
+  after-is k r (arrives d ∷ es) only =
+      subst (λ (x : Endpoint). Comes sent s (runOf w cap (stepOf w cap r (arrives d)) es) (after w cap x es)) (sym (arrived k r d (only d (List·Memᴰ·head refl))))
+      (after-is (heardOf (receiver.receiveAnswer w cap r d) d k) (stepOf w cap r (arrives d)) es (λ x i. only x (List·Memᴰ·tail i)))
+  after-is k r (takes room ∷ es) only = after-is k (stepOf w cap r (takes room)) es only
 
-  pub handed-is : (r : receiving.State) (es : List Event) → Plain (datagramsOf es) → handed w cap (with e r) es ≡ handedOf w cap r es
+  -- Where all carry the same, it is remembered exactly if one of them is accepted.
+  pub after-field : (size k : ℕ) (r : receiving.State) (es : List Event) → Plain (datagramsOf es) → ((d : List ℕ) → In d (datagramsOf es) → Sized size d)
+      → after w cap (both sent (remembering k s) r) es .halves .sender .logwindow ≡ cond (broughtIn w cap r es) size k
+  unfolding callsOf callOf broughtIn datagramsOf
+  after-field size k r [] only sized = refl
+  after-field size k r (arrives d ∷ es) only sized =
+      ap (λ (x : Endpoint). after w cap x es .halves .sender .logwindow) (arrived k r d (only d (List·Memᴰ·head refl)))
+      ∙ after-field size (heardOf (receiver.receiveAnswer w cap r d) d k) (stepOf w cap r (arrives d)) es (λ x i. only x (List·Memᴰ·tail i))
+      (λ x i. sized x (List·Memᴰ·tail i))
+      ∙ ap (λ (j : ℕ). cond (broughtIn w cap (stepOf w cap r (arrives d)) es) size j)
+      (heard-sized size d (sized d (List·Memᴰ·head refl)) (receiver.receiveAnswer w cap r d) k)
+      ∙ later-or (broughtIn w cap (stepOf w cap r (arrives d)) es) (remembers.taken (receiver.receiveAnswer w cap r d) d) size k
+  after-field size k r (takes room ∷ es) only sized = after-field size k (stepOf w cap r (takes room)) es only sized
+
+  pub handed-is : (k : ℕ) (r : receiving.State) (es : List Event) → Plain (datagramsOf es) → handed w cap (both sent (remembering k s) r) es ≡ handedOf w cap r es
   unfolding handedBy callOf handedOf datagramsOf
-  handed-is r [] only = refl
-  handed-is r (arrives d ∷ es) only =
-      ap (λ (x : Endpoint). handed w cap x es) (arrived r d (only d (List·Memᴰ·head refl)))
-      ∙ handed-is (stepOf w cap r (arrives d)) es (λ x i. only x (List·Memᴰ·tail i))
-  handed-is r (takes room ∷ es) only =
-      ap (λ (l : List (List ℕ)). givenBy w cap (with e r) (callFor (takes room)) ++ l) (handed-is (stepOf w cap r (takes room)) es only)
+  handed-is k r [] only = refl
+  handed-is k r (arrives d ∷ es) only =
+      ap (λ (x : Endpoint). handed w cap x es) (arrived k r d (only d (List·Memᴰ·head refl)))
+      ∙ handed-is (heardOf (receiver.receiveAnswer w cap r d) d k) (stepOf w cap r (arrives d)) es (λ x i. only x (List·Memᴰ·tail i))
+  handed-is k r (takes room ∷ es) only =
+      ap (λ (l : List (List ℕ)). givenBy w cap (both sent (remembering k s) r) (callFor (takes room)) ++ l) (handed-is k (stepOf w cap r (takes room)) es only)
 
 -- Acknowledgements with other calls between: the sender's half runs by the acknowledgements alone, and the receiver's by what stands between.
 pub between-plain : {cs : List Call} {ds : List (List ℕ)} {es : List Event} → Between cs ds es → Plain (datagramsOf es)
@@ -66,10 +94,6 @@ between-acks (brings d o b) x m = between-acks b x m
 between-acks (taken room b) x m = between-acks b x m
 between-acks (written stamp gap room b) x m = between-acks b x m
 
--- the halves in some states, with the sender's store
-abbrev pub both : List ℕ → Sender → receiving.State → Endpoint
-both sent s r = record { halves = paired s r; sent = sent }
-
 pub run-sound : (w cap : ℕ) → 0 < w → w ≤ cap → (r : receiving.State) (es : List Event) → receiverTests.soundOf w cap (r .receiver) (length (r .store)) ≡ true
     → receiverTests.soundOf w cap (runOf w cap r es .receiver) (length (runOf w cap r es .store)) ≡ true
 unfolding runOf
@@ -77,38 +101,76 @@ run-sound w cap lw uw r [] h = h
 run-sound w cap lw uw r (arrives d ∷ es) h = run-sound w cap lw uw (stepOf w cap r (arrives d)) es (receive-keeps w cap r d lw uw h)
 run-sound w cap lw uw r (takes room ∷ es) h = run-sound w cap lw uw (stepOf w cap r (takes room)) es (take-keeps w cap r room lw uw h)
 
+or-between : (a b c : Bool) → (b || (a || c)) ≡ (a || (b || c))
+or-between true true c = refl
+or-between true false c = refl
+or-between false b c = refl
+
 module _ (w cap : ℕ) (lw : 0 < w) (uw : w ≤ cap) (sent : List ℕ) where
-  told : (s : Sender) (r : receiving.State) (d : List ℕ) → OnlyAck d → receiverTests.soundOf w cap (r .receiver) (length (r .store)) ≡ true
-      → callOf w cap (both sent s r) (receives d) ≡ both sent (acknowledgeOf w cap s d) r
+  told : (k : ℕ) (s : Sender) (r : receiving.State) (d : List ℕ) → OnlyAck d → receiverTests.soundOf w cap (r .receiver) (length (r .store)) ≡ true
+      → callOf w cap (both sent (remembering k s) r) (receives d)
+      ≡ both sent (remembering (heardOf (acknowledgeAnswer w cap s d) d k) (acknowledgeOf w cap s d)) r
   unfolding callOf
-  told s r d only h = ap (λ (x : Halves). record { halves = x; sent = sent }) (ack-of w cap (paired s r) d only h)
+  told k s r d only h =
+      ap (λ (x : Halves). record { halves = x; sent = sent }) (ack-of w cap (paired (remembering k s) r) d only h)
+      ∙ ap (λ (q : Sender). both sent q r) (acknowledge-remembers k w cap s d)
 
-  pub between-is : {cs : List Call} {ds : List (List ℕ)} {es : List Event} → Between cs ds es → (s : Sender) (r : receiving.State)
+  pub between-is : {cs : List Call} {ds : List (List ℕ)} {es : List Event} → Between cs ds es → (k : ℕ) (s : Sender) (r : receiving.State)
       → senderTests.consistentOf w cap s ≡ true → receiverTests.soundOf w cap (r .receiver) (length (r .store)) ≡ true
-      → callsOf w cap (both sent s r) cs ≡ both sent (run w cap s ds) (runOf w cap r es)
+      → Comes sent (run w cap s ds) (runOf w cap r es) (callsOf w cap (both sent (remembering k s) r) cs)
   unfolding callsOf callOf run runOf
-  between-is nothing s r p q = refl
-  between-is (tells {cs} d o b) s r p q =
-      ap (λ (x : Endpoint). callsOf w cap x cs) (told s r d o q)
-      ∙ between-is b (acknowledgeOf w cap s d) r (acknowledge-keeps w cap lw uw s d p) q
-  between-is (brings {cs} d o b) s r p q =
-      ap (λ (x : Endpoint). callsOf w cap x cs) (arrived w cap (both sent s r) p r d o)
-      ∙ between-is b s (stepOf w cap r (arrives d)) p (receive-keeps w cap r d lw uw q)
-  between-is (taken room b) s r p q = between-is b s (stepOf w cap r (takes room)) p (take-keeps w cap r room lw uw q)
-  between-is (written stamp gap room b) s r p q = between-is b s r p q
+  between-is nothing k s r p q = refl
+  between-is (tells {cs} {ds} {es} d o b) k s r p q =
+      subst (λ (x : Endpoint). Comes sent (run w cap (acknowledgeOf w cap s d) ds) (runOf w cap r es) (callsOf w cap x cs)) (sym (told k s r d o q))
+      (between-is b (heardOf (acknowledgeAnswer w cap s d) d k) (acknowledgeOf w cap s d) r (acknowledge-keeps w cap lw uw s d p) q)
+  between-is (brings {cs} {ds} {es} d o b) k s r p q =
+      subst (λ (x : Endpoint). Comes sent (run w cap s ds) (runOf w cap (stepOf w cap r (arrives d)) es) (callsOf w cap x cs)) (sym (arrived w cap sent s p k r d o))
+      (between-is b (heardOf (receiver.receiveAnswer w cap r d) d k) s (stepOf w cap r (arrives d)) p (receive-keeps w cap r d lw uw q))
+  between-is (taken room b) k s r p q = between-is b k s (stepOf w cap r (takes room)) p (take-keeps w cap r room lw uw q)
+  between-is (written stamp gap room b) k s r p q = between-is b k s r p q
 
-  pub between-hands : {cs : List Call} {ds : List (List ℕ)} {es : List Event} → Between cs ds es → (s : Sender) (r : receiving.State)
+  -- Where all carry the same LogWindowSize, it is remembered exactly if one of them is accepted.
+  pub between-field : {cs : List Call} {ds : List (List ℕ)} {es : List Event} → Between cs ds es → (size k : ℕ) (s : Sender) (r : receiving.State)
       → senderTests.consistentOf w cap s ≡ true → receiverTests.soundOf w cap (r .receiver) (length (r .store)) ≡ true
-      → handedBy w cap (both sent s r) cs ≡ handedOf w cap r es
+      → ((d : List ℕ) → In d ds → Sized size d) → ((d : List ℕ) → In d (datagramsOf es) → Sized size d)
+      → callsOf w cap (both sent (remembering k s) r) cs .halves .sender .logwindow ≡ cond (acceptedIn w cap s ds || broughtIn w cap r es) size k
+  unfolding callsOf callOf acceptedIn anyOf broughtIn datagramsOf run
+  between-field nothing size k s r p q x y = refl
+  between-field (tells {cs} {ds} {es} d o b) size k s r p q x y =
+      let a : Bool = remembers.taken (acknowledgeAnswer w cap s d) d in
+      ap (λ (z : Endpoint). callsOf w cap z cs .halves .sender .logwindow) (told k s r d o q)
+      ∙ between-field b size (heardOf (acknowledgeAnswer w cap s d) d k) (acknowledgeOf w cap s d) r (acknowledge-keeps w cap lw uw s d p) q
+      (λ z i. x z (List·Memᴰ·tail i)) y
+      ∙ ap (λ (z : Bool). cond (z || broughtIn w cap r es) size (heardOf (acknowledgeAnswer w cap s d) d k))
+      (accepted-alike w cap s (acknowledgeOf w cap s d) (answered-alike w cap lw uw s p (d ∷ [])) ds)
+      ∙ ap (λ (j : ℕ). cond (acceptedIn w cap s ds || broughtIn w cap r es) size j)
+      (heard-sized size d (x d (List·Memᴰ·head refl)) (acknowledgeAnswer w cap s d) k)
+      ∙ later-or (acceptedIn w cap s ds || broughtIn w cap r es) a size k
+      ∙ ap (λ (z : Bool). cond z size k) (sym (or-assoc a (acceptedIn w cap s ds) (broughtIn w cap r es)))
+  between-field (brings {cs} {ds} {es} d o b) size k s r p q x y =
+      let a : Bool = remembers.taken (receiver.receiveAnswer w cap r d) d in
+      let c : Bool = broughtIn w cap (stepOf w cap r (arrives d)) es in
+      ap (λ (z : Endpoint). callsOf w cap z cs .halves .sender .logwindow) (arrived w cap sent s p k r d o)
+      ∙ between-field b size (heardOf (receiver.receiveAnswer w cap r d) d k) s (stepOf w cap r (arrives d)) p (receive-keeps w cap r d lw uw q)
+      x (λ z i. y z (List·Memᴰ·tail i))
+      ∙ ap (λ (j : ℕ). cond (acceptedIn w cap s ds || c) size j) (heard-sized size d (y d (List·Memᴰ·head refl)) (receiver.receiveAnswer w cap r d) k)
+      ∙ later-or (acceptedIn w cap s ds || c) a size k
+      ∙ ap (λ (z : Bool). cond z size k) (or-between (acceptedIn w cap s ds) a c)
+  between-field (taken room b) size k s r p q x y = between-field b size k s (stepOf w cap r (takes room)) p (take-keeps w cap r room lw uw q) x y
+  between-field (written stamp gap room b) size k s r p q x y = between-field b size k s r p q x y
+
+  pub between-hands : {cs : List Call} {ds : List (List ℕ)} {es : List Event} → Between cs ds es → (k : ℕ) (s : Sender) (r : receiving.State)
+      → senderTests.consistentOf w cap s ≡ true → receiverTests.soundOf w cap (r .receiver) (length (r .store)) ≡ true
+      → handedBy w cap (both sent (remembering k s) r) cs ≡ handedOf w cap r es
   unfolding handedBy callOf handedOf
-  between-hands nothing s r p q = refl
-  between-hands (tells {cs} d o b) s r p q =
-      ap (λ (x : Endpoint). handedBy w cap x cs) (told s r d o q)
-      ∙ between-hands b (acknowledgeOf w cap s d) r (acknowledge-keeps w cap lw uw s d p) q
-  between-hands (brings {cs} d o b) s r p q =
-      ap (λ (x : Endpoint). handedBy w cap x cs) (arrived w cap (both sent s r) p r d o)
-      ∙ between-hands b s (stepOf w cap r (arrives d)) p (receive-keeps w cap r d lw uw q)
-  between-hands (taken room b) s r p q =
-      ap (λ (l : List (List ℕ)). givenBy w cap (both sent s r) (callFor (takes room)) ++ l)
-      (between-hands b s (stepOf w cap r (takes room)) p (take-keeps w cap r room lw uw q))
-  between-hands (written stamp gap room b) s r p q = between-hands b s r p q
+  between-hands nothing k s r p q = refl
+  between-hands (tells {cs} d o b) k s r p q =
+      ap (λ (x : Endpoint). handedBy w cap x cs) (told k s r d o q)
+      ∙ between-hands b (heardOf (acknowledgeAnswer w cap s d) d k) (acknowledgeOf w cap s d) r (acknowledge-keeps w cap lw uw s d p) q
+  between-hands (brings {cs} d o b) k s r p q =
+      ap (λ (x : Endpoint). handedBy w cap x cs) (arrived w cap sent s p k r d o)
+      ∙ between-hands b (heardOf (receiver.receiveAnswer w cap r d) d k) s (stepOf w cap r (arrives d)) p (receive-keeps w cap r d lw uw q)
+  between-hands (taken room b) k s r p q =
+      ap (λ (l : List (List ℕ)). givenBy w cap (both sent (remembering k s) r) (callFor (takes room)) ++ l)
+      (between-hands b k s (stepOf w cap r (takes room)) p (take-keeps w cap r room lw uw q))
+  between-hands (written stamp gap room b) k s r p q = between-hands b k s r p q

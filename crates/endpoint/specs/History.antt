@@ -1,7 +1,7 @@
 -- Histories of an endpoint, of which demand 3 speaks: datagrams that arrive and takes, as calls; the blocks that calls hand over; what such datagrams carry; and
 -- the calls that may stand between acknowledgements.
 use Prim.Native.Nat.{ℕ, _+_}
-use mathlib.Core.Bool.{false}
+use mathlib.Core.Bool.{Bool, false, _||_}
 use mathlib.Core.List.{List, [], _∷_, _++_, map}
 use mathlib.Core.Logic.{_⊎_}
 use mathlib.Core.Path.{_≡_}
@@ -9,7 +9,10 @@ use Rattle.wire.specs.declared.Packet.{Packet}
 use Rattle.wire.specs.declared.Reading.the-variants.{Read}
 use Rattle.wire.specs.Flags.{ackIn, vectorIn}
 use Rattle.wire.specs.Read.{readOf}
-use Rattle.receiver.specs.History.{Event, arrives, takes, givenOf}
+use Rattle.receiver.specs.Record.{State}
+use Rattle.receiver.specs.Receive.{receiveAnswer}
+use Rattle.receiver.specs.History.{Event, arrives, takes, stepOf, givenOf}
+use Rattle.sender.specs.Remembering.{taken as isTaken}
 use Rattle.endpoint.specs.Receive.{receiverOf}
 use Rattle.endpoint.specs.Calls.{Endpoint, Call, receives, acknowledges, sends, resends, sweeps, callOf, callsOf}
 use Rattle.endpoint.specs.Calls as calls
@@ -59,3 +62,9 @@ pub data Between : List Call → List (List ℕ) → List Event → Type 0 where
   taken : {cs : List Call} {ds : List (List ℕ)} {es : List Event} (room : ℕ) → Between cs ds es → Between (calls.takes room ∷ cs) ds (takes room ∷ es)
   written : {cs : List Call} {ds : List (List ℕ)} {es : List Event} (stamp gap room : ℕ) → Between cs ds es
       → Between (acknowledges stamp gap room ∷ cs) ds es
+
+-- is one of these events' datagrams a packet of type 0, and accepted by a receiver's half that stands so?
+unfoldable pub broughtIn : ℕ → ℕ → State → List Event → Bool
+broughtIn w cap r [] = false
+broughtIn w cap r (arrives d ∷ es) = isTaken (receiveAnswer w cap r d) d || broughtIn w cap (stepOf w cap r (arrives d)) es
+broughtIn w cap r (takes room ∷ es) = broughtIn w cap (stepOf w cap r (takes room)) es

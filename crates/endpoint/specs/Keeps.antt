@@ -26,6 +26,7 @@ use Rattle.sender.specs.declared.Sender.{Sender}
 use Rattle.sender.specs.Record.{isPending, isAcknowledged, numberPasses, noNumber, noBlock, numberAt, blockAt}
 use Rattle.sender.specs.Fresh as sending
 use Rattle.sender.specs.Consistent as senderTests
+use Rattle.sender.specs.Acknowledge.{toldAnswer, toldBy}
 use Rattle.sender.specs.Acknowledge as sender
 use Rattle.sender.specs.Facts as senderFacts
 use Rattle.sender.specs.SendReady.{sound-facts}
@@ -46,10 +47,17 @@ module _ (w cap : ℕ) (e : Halves) (d : List ℕ) where
 
   read-both : (x : Reading)
       → (readInto w e d x ≡ e) ⊎ (readInto w e d x ≡ paired (sender.readInto w (e .sender) d x) (receiver.readInto w (receiverOf e) d x))
-  unfolding readInto sender.readInto receiver.readInto packetOf
+  unfolding readInto sender.readInto sender.packetOf receiver.readInto packetAnswer packetOf
   read-both (Refused n) = inl refl
   read-both Dummy = inl refl
-  read-both (Read p) = told-both (eqb (packetAnswer w e d p) 0) (packetTold w e d p)
+  read-both (Read p) = go (eqb (toldAnswer (e .sender) (toldBy (e .sender) d p)) 0) refl
+    where
+      -- a packet that the sender's half refuses is refused
+      go : (b : Bool) → eqb (toldAnswer (e .sender) (toldBy (e .sender) d p)) 0 ≡ b
+          → (packetOf w e d p ≡ e)
+          ⊎ (packetOf w e d p ≡ paired (sender.packetOf w (e .sender) d p) (receiver.readInto w (receiverOf e) d (Read p)))
+      go true z = rw z (told-both (eqb (receiver.valuesAnswer w (e .receiver) d p) 0) (packetTold w e d p))
+      go false z = inl (rw (z, z) refl)
 
   both-or-neither : senderTests.consistentOf w cap (e .sender) ≡ true → receiverTests.soundOf w cap (e .receiver) (length (e .store)) ≡ true
       → (receiveOf w cap e d ≡ e) ⊎ (receiveOf w cap e d ≡ paired (sender.acknowledgeOf w cap (e .sender) d) (receiver.receiveOf w cap (receiverOf e) d))

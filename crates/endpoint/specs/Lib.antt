@@ -9,6 +9,7 @@ pub mod Sound
 pub mod History
 pub mod RefusedChangesNothing
 pub mod StaysSound
+pub mod RemembersTheLast
 pub mod AnyOrderOfData
 pub mod AnyOrderOfAcknowledgements
 pub mod CanBeMet
@@ -17,5 +18,6 @@ pub mod UsedOutset
 pub mod UsedOutsetCanBeMet
 pub mod Refused
 pub mod Steps
+pub mod Brought
 pub mod Follows
 pub mod Keeps

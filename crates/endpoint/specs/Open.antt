@@ -6,7 +6,7 @@ use lib.Dec.{eqb, ltb}
 use Rattle.common.specs.Order.{Test, test, first}
 use Rattle.numbers.specs.Full.{highestFirst}
 use Rattle.receiver.specs.Fresh as receiving
-use Rattle.sender.specs.Record.{shortestTimeout, longestTimeout}
+use Rattle.sender.specs.Record.{shortestTimeout, longestTimeout, remembering}
 use Rattle.sender.specs.Fresh as sending
 use Rattle.endpoint.specs.declared.Opened.{Opened}
 
@@ -31,8 +31,17 @@ freshPair cap answer firstdata firstchannel timeout =
       receiver = receiving.freshOf cap firstdata firstchannel;
     }
 
+-- two halves of zeros
+abbrev pub zeroPair : ℕ → ℕ → Opened
+zeroPair cap answer =
+    record {
+      answer = answer;
+      sender = remembering 0 (sending.freshOf cap 0 0 0);
+      receiver = receiving.freshOf cap 0 0;
+    }
+
 -- the whole call; where it is refused, nothing is opened: every field is zero
 unfoldable pub openedOf : ℕ → ℕ → ℕ → ℕ → Opened
 openedOf cap firstdata firstchannel timeout =
     cond (eqb (openAnswer firstdata firstchannel timeout) 0) (freshPair cap 0 firstdata firstchannel timeout)
-    (freshPair cap (openAnswer firstdata firstchannel timeout) 0 0 0)
+    (zeroPair cap (openAnswer firstdata firstchannel timeout))

@@ -1,5 +1,5 @@
 -- Receiving one datagram into both halves: "13, then reading, then 8, then 7". A packet with an acknowledgement and data is judged whole before either half
--- changes; a dummy changes nothing. DelayAckInfo, OverheadSize and LogWindowSize have no effect.
+-- changes; a dummy changes nothing. LogWindowSize is remembered by the sender's half (document 02, W5). DelayAckInfo and OverheadSize have no effect.
 use Prim.Native.Nat.{ℕ}
 use mathlib.Core.Bool.{Bool, cond}
 use mathlib.Core.List.{List, [], _∷_}
@@ -16,7 +16,8 @@ use Rattle.receiver.specs.Consistent as receiverTests
 use Rattle.receiver.specs.Receive as receiver
 use Rattle.sender.specs.declared.Sender.{Sender}
 use Rattle.sender.specs.Consistent as senderTests
-use Rattle.sender.specs.Acknowledge.{toldAnswer, toldOf, toldBy}
+use Rattle.sender.specs.Acknowledge.{toldAnswer, toldBy}
+use Rattle.sender.specs.Acknowledge as sender
 
 -- both halves, and the store of the receiver's
 pub record Halves : Type 0 where
@@ -46,7 +47,7 @@ packetAnswer w e d p =
 abbrev pub packetTold : ℕ → Halves → List ℕ → Packet → Halves
 packetTold w e d p =
     record {
-      sender = toldOf w (e .sender) (toldBy (e .sender) d p);
+      sender = sender.packetTold w (e .sender) d p;
       receiver = receiver.valuesOf w (receiverOf e) d p .receiver;
       store = receiver.valuesOf w (receiverOf e) d p .store;
     }

@@ -1,5 +1,5 @@
--- What one datagram does to an endpoint, half by half: one that tells the sender nothing goes to the receiver alone, and one that brings the receiver nothing
--- goes to the sender alone.
+-- What one datagram does to an endpoint, half by half: one that tells the sender nothing goes to the receiver alone, but for its LogWindowSize, and one that brings
+-- the receiver nothing goes to the sender alone.
 use Prim.Native.Nat.{ℕ}
 use mathlib.Core.Bool.{Bool, true, false, cond}
 use mathlib.Core.List.{List}
@@ -27,8 +27,10 @@ use Rattle.receiver.specs.Receive.{answerFor, stateFor, arrivalFrom, waiverFrom
 use Rattle.receiver.specs.Receive as receiver
 use Rattle.sender.specs.declared.Sender.{Sender}
 use Rattle.sender.specs.Consistent as senderTests
-use Rattle.sender.specs.Acknowledge.{Told, silent, upTo, listed, toldAnswer, toldOf, toldBy}
+use Rattle.sender.specs.Record.{remembering}
+use Rattle.sender.specs.Acknowledge.{Told, silent, toldAnswer, toldOf, toldBy}
 use Rattle.sender.specs.Acknowledge as sender
+use Rattle.sender.specs.Remembering.{sizeIn, heardOf, either-way}
 use Rattle.endpoint.specs.History.{OnlyData, OnlyAck, NoAck}
 use Rattle.endpoint.specs.Receive.{Halves, receiverOf, soundOf, packetAnswer, packetTold, packetOf, readAnswer, readInto, receiveAnswer, receiveOf}
 
@@ -65,15 +67,11 @@ values-left : (w : ℕ) (s : receiving.State) (d : List ℕ) (p : Packet)
 unfolding receiver.valuesAnswer receiver.valuesOf
 values-left w s d p = brought-left w s (arrivalFrom (s .receiver) (p .values) (bodyIn d p))
 
-told-left : (w : ℕ) (s : Sender) (m : Told) → cond (eqb (toldAnswer s m) 0) (toldOf w s m) s ≡ toldOf w s m
-unfolding toldAnswer toldOf
-told-left w s silent = refl
-told-left w s (upTo a) = again (eqb (toldAnswer s (upTo a)) 0) _ s
-told-left w s (listed a v) = again (eqb (toldAnswer s (listed a v)) 0) _ s
-
-cond-receiver : (b : Bool) (s : Sender) (x y : receiving.State) → cond b (paired s x) (paired s y) ≡ paired s (cond b x y)
-cond-receiver true s x y = refl
-cond-receiver false s x y = refl
+-- a half that remembers k where it accepts
+cond-remembering : (b : Bool) (k : ℕ) (s : Sender) (x y : receiving.State)
+    → cond b (paired (remembering k s) x) (paired s y) ≡ paired (remembering (cond b k (s .logwindow)) s) (cond b x y)
+cond-remembering true k s x y = refl
+cond-remembering false k s x y = refl
 
 cond-sender : (b : Bool) (s t : Sender) (x : receiving.State) → cond b (paired s x) (paired t x) ≡ paired (cond b s t) x
 cond-sender true s t x = refl
@@ -85,17 +83,22 @@ module _ (w : ℕ) (e : Halves) (d : List ℕ) (p : Packet) (t : toldBy (e .send
   unfolding packetAnswer toldAnswer
   quiet-answer = rw t refl
 
-  quiet-told : packetTold w e d p ≡ paired (e .sender) (receiver.valuesOf w (receiverOf e) d p)
+  quiet-told : packetTold w e d p ≡ paired (remembering (p .values .logwindow) (e .sender)) (receiver.valuesOf w (receiverOf e) d p)
   unfolding toldOf
-  quiet-told = ap (λ (m : Told). paired (toldOf w (e .sender) m) (receiver.valuesOf w (receiverOf e) d p)) t
+  quiet-told =
+      ap (λ (m : Told). paired (remembering (p .values .logwindow) (toldOf w (e .sender) m)) (receiver.valuesOf w (receiverOf e) d p)) t
 
-  quiet-of : packetOf w e d p ≡ paired (e .sender) (receiver.valuesOf w (receiverOf e) d p)
+  -- the field that is left
+  abbrev quietField : ℕ
+  quietField = cond (eqb (receiver.valuesAnswer w (e .receiver) d p) 0) (p .values .logwindow) (e .sender .logwindow)
+
+  quiet-of : packetOf w e d p ≡ paired (remembering quietField (e .sender)) (receiver.valuesOf w (receiverOf e) d p)
   unfolding packetOf
   quiet-of =
       ap (λ (n : ℕ). cond (eqb n 0) (packetTold w e d p) e) quiet-answer
       ∙ ap (λ (x : Halves). cond (eqb (receiver.valuesAnswer w (e .receiver) d p) 0) x e) quiet-told
-      ∙ cond-receiver (eqb (receiver.valuesAnswer w (e .receiver) d p) 0) (e .sender) (receiver.valuesOf w (receiverOf e) d p) (receiverOf e)
-      ∙ ap (paired (e .sender)) (values-left w (receiverOf e) d p)
+      ∙ cond-remembering (eqb (receiver.valuesAnswer w (e .receiver) d p) 0) (p .values .logwindow) (e .sender) (receiver.valuesOf w (receiverOf e) d p) (receiverOf e)
+      ∙ ap (paired (remembering quietField (e .sender))) (values-left w (receiverOf e) d p)
 
 same : (b : Bool) → cond b true false ≡ b
 same true = refl
@@ -114,17 +117,16 @@ module _ (w : ℕ) (e : Halves) (d : List ℕ) (p : Packet) (t : arrivalFrom (e 
   unfolding packetAnswer receiver.valuesAnswer arrivalAnswer
   idle-answer = rw t (zero-or (toldAnswer (e .sender) (toldBy (e .sender) d p)))
 
-  idle-told : packetTold w e d p ≡ paired (toldOf w (e .sender) (toldBy (e .sender) d p)) (receiverOf e)
+  idle-told : packetTold w e d p ≡ paired (sender.packetTold w (e .sender) d p) (receiverOf e)
   unfolding receiver.valuesOf arrivalOf
-  idle-told = ap (λ (o : Option Arrival). paired (toldOf w (e .sender) (toldBy (e .sender) d p)) (stateFor w (receiverOf e) o)) t
+  idle-told = ap (λ (o : Option Arrival). paired (sender.packetTold w (e .sender) d p) (stateFor w (receiverOf e) o)) t
 
-  idle-of : packetOf w e d p ≡ paired (toldOf w (e .sender) (toldBy (e .sender) d p)) (receiverOf e)
-  unfolding packetOf
+  idle-of : packetOf w e d p ≡ paired (sender.packetOf w (e .sender) d p) (receiverOf e)
+  unfolding packetOf sender.packetOf
   idle-of =
       ap (λ (n : ℕ). cond (eqb n 0) (packetTold w e d p) e) idle-answer
       ∙ ap (λ (x : Halves). cond (eqb (toldAnswer (e .sender) (toldBy (e .sender) d p)) 0) x e) idle-told
-      ∙ cond-sender (eqb (toldAnswer (e .sender) (toldBy (e .sender) d p)) 0) (toldOf w (e .sender) (toldBy (e .sender) d p)) (e .sender) (receiverOf e)
-      ∙ ap (λ (s : Sender). paired s (receiverOf e)) (told-left w (e .sender) (toldBy (e .sender) d p))
+      ∙ cond-sender (eqb (toldAnswer (e .sender) (toldBy (e .sender) d p)) 0) (sender.packetTold w (e .sender) d p) (e .sender) (receiverOf e)
 
 -- Data alone has no acknowledgement, and a packet with none tells the sender nothing.
 pub data-no-ack : (d : List ℕ) → OnlyData d → NoAck d
@@ -143,12 +145,17 @@ unfolding arrivalFrom waiverFrom
 brings-nothing r v block (inl f) = rw f refl
 brings-nothing r v block (inr f) = rw f refl
 
--- No acknowledgement: the endpoint answers as its receiver's half does, and only that half changes.
+-- No acknowledgement: the endpoint answers as its receiver's half does, and only that half changes, but for the LogWindowSize that the sender's remembers.
 module _ (w cap : ℕ) (e : Halves) (d : List ℕ) (only : NoAck d) (s : senderTests.consistentOf w cap (e .sender) ≡ true) where
+  -- the field after a datagram that reads so, and is answered so
+  abbrev fieldBy : ℕ → Reading → ℕ
+  fieldBy answer x = cond (eqb answer 0) (sizeIn x (e .sender .logwindow)) (e .sender .logwindow)
+
   read-quiet : (r : Reading) → readOf d ≡ r
-      → (readAnswer w e d r ≡ receiver.readAnswer w (e .receiver) d r) × (readInto w e d r ≡ paired (e .sender) (receiver.readInto w (receiverOf e) d r))
-  unfolding readAnswer readInto receiver.readAnswer receiver.readInto
-  read-quiet (Refused n) q = (refl, refl)
+      → (readAnswer w e d r ≡ receiver.readAnswer w (e .receiver) d r)
+      × (readInto w e d r ≡ paired (remembering (fieldBy (receiver.readAnswer w (e .receiver) d r) r) (e .sender)) (receiver.readInto w (receiverOf e) d r))
+  unfolding readAnswer readInto receiver.readAnswer receiver.readInto sizeIn
+  read-quiet (Refused n) q = (refl, ap (λ (k : ℕ). paired (remembering k (e .sender)) (receiverOf e)) (sym (either-way (eqb n 0) (e .sender .logwindow))))
   read-quiet Dummy q = (refl, refl)
   read-quiet (Read p) q =
       let t : toldBy (e .sender) d p ≡ silent = tells-nothing (e .sender) d p (only p q) in (quiet-answer w e d p t, quiet-of w e d p t)
@@ -161,12 +168,20 @@ module _ (w cap : ℕ) (e : Halves) (d : List ℕ) (only : NoAck d) (s : senderT
   unfolding receiveAnswer receiver.receiveAnswer
   no-ack-answer = rw sound-is (ap (λ (n : ℕ). cond (receiverTests.soundOf w cap (e .receiver) (length (e .store))) n 13) (read-quiet (readOf d) refl .0))
 
-  pub no-ack-of : receiveOf w cap e d ≡ paired (e .sender) (receiver.receiveOf w cap (receiverOf e) d)
-  unfolding receiveOf receiver.receiveOf
+  pub no-ack-of : receiveOf w cap e d
+      ≡ paired (remembering (heardOf (receiver.receiveAnswer w cap (receiverOf e) d) d (e .sender .logwindow)) (e .sender)) (receiver.receiveOf w cap (receiverOf e) d)
+  unfolding receiveOf receiver.receiveOf receiver.receiveAnswer
   no-ack-of =
       rw sound-is
       (ap (λ (x : Halves). cond (receiverTests.soundOf w cap (e .receiver) (length (e .store))) x e) (read-quiet (readOf d) refl .1)
-      ∙ cond-receiver (receiverTests.soundOf w cap (e .receiver) (length (e .store))) (e .sender) _ (receiverOf e))
+      ∙ go (receiverTests.soundOf w cap (e .receiver) (length (e .store))))
+    where
+      go : (b : Bool)
+          → cond b (paired (remembering (fieldBy (receiver.readAnswer w (e .receiver) d (readOf d)) (readOf d)) (e .sender)) (receiver.readInto w (receiverOf e) d (readOf d))) e
+          ≡ paired (remembering (fieldBy (cond b (receiver.readAnswer w (e .receiver) d (readOf d)) 13) (readOf d)) (e .sender))
+          (cond b (receiver.readInto w (receiverOf e) d (readOf d)) (receiverOf e))
+      go true = refl
+      go false = refl
 
 -- An acknowledgement alone: the endpoint answers as its sender's half does, and only that half changes.
 module _ (w cap : ℕ) (e : Halves) (d : List ℕ) (only : OnlyAck d) (r : receiverTests.soundOf w cap (e .receiver) (length (e .store)) ≡ true) where

@@ -1,5 +1,5 @@
 -- An endpoint that is not fresh, as an outset for both halves of demand 3. Its receiver stands at base 40 with 42 and 44 received, so end is 45, and at block 31 with 32 and 33 held.
--- Its sender has sent up to 9: 5, 8 and 9 are pending, 6 is received, and 7 is lost, whose block 8 carries again.
+-- Its sender has sent up to 9: 5, 8 and 9 are pending, 6 is received, and 7 is lost, whose block 8 carries again. The peer's LogWindowSize was 3.
 use Prim.Native.Nat.{ℕ, _*_}
 use mathlib.Core.Bool.{true}
 use mathlib.Core.List.{List, _∷_, _++_}
@@ -69,6 +69,7 @@ usedSender =
       firstdata = record { 0 = 0 };
       firstchannel = record { 0 = 0 };
       timeout = 300;
+      logwindow = 3;
       low = record { 0 = 5 };
       next = record { 0 = 10 };
       channellow = record { 0 = 3 };

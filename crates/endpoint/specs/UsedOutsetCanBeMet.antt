@@ -1,8 +1,8 @@
 -- The premises of both halves of demand 3 can be met at an outset that is not fresh (UsedOutset.antt), and both halves in one history. Three datagrams of data are a set
 -- there: they fill the gap at the block that is due, carry a block that is held once more, and waive number 41, which never comes. Of three acknowledgements one is an
--- ACK, one a vector, and one names a number that was never sent.
+-- ACK, one a vector, and one names a number that was never sent. All six carry LogWindowSize 5, where the outset remembers 3.
 use Prim.Native.Nat.{ℕ, zero, suc, _-_}
-use mathlib.Core.Bool.{Bool, false, cond, _||_}
+use mathlib.Core.Bool.{Bool, true, false, cond, _||_}
 use mathlib.Core.List.{List, [], _∷_, _++_, map, List·Memᴰ·head, List·Memᴰ·tail}
 use mathlib.Core.Logic.{inl, inr}
 use mathlib.Core.Option.{none, some}
@@ -11,7 +11,7 @@ use native.Mathlib.Omega.{arith}
 use lib.Dec.{eqb, leb}
 use lib.ListN.{replicate, set}
 use Rattle.common.specs.Every.{every}
-use Rattle.common.specs.Facts.{clash}
+use Rattle.common.specs.Facts.{clash, or-left}
 use Rattle.common.specs.Order.{first}
 use Rattle.numbers.specs.Widen.{widenOf}
 use Rattle.window.specs.Store.{placeSize}
@@ -24,6 +24,7 @@ use Rattle.wire.specs.Flags.{outside, sixOf}
 use Rattle.wire.specs.Frame.{swapped, droppedBy, endOf}
 use Rattle.wire.specs.Layout.{ackEnd, overheadEnd, delayEnd, aoaEnd, numberEnd, vectorEnd, channelEnd, valuesOf, packetOf, partOf}
 use Rattle.wire.specs.Read.{readOf, readPacket}
+use Rattle.wire.specs.Round.Found.{found}
 use Rattle.receiver.specs.declared.Receiver.{Receiver}
 use Rattle.receiver.specs.Record.{State, empty, holding, contents}
 use Rattle.receiver.specs.Packet.{Packet}
@@ -32,22 +33,25 @@ use Rattle.receiver.specs.Receive.{onSome, dataNumber, channelNumber, ifFlagged
 use Rattle.receiver.specs.Determined.{itemOf, inside, markedIn, heldIn, seenBy, hasBy, lengthIn, lengthBy, floorBy, baseBy, endBy, dueBy, determinedOf, blockIn, bodyBy, blocksFrom}
 use Rattle.receiver.specs.History.{Event, arrives, takes, datagramsOf, takesOf}
 use Rattle.receiver.specs.Set.{Set, packetAt, From, Covers}
+use Rattle.receiver.specs.Order.Runs.{takes-bring}
 use Rattle.receiver.specs.Shown.{Brings, Shown, packet-is, shown-set}
 use Rattle.sender.specs.declared.Sender.{Sender}
-use Rattle.sender.specs.Record.{pending, received, inFlight, acknowledged, noNumber, noBlock}
+use Rattle.sender.specs.Record.{pending, received, inFlight, acknowledged, noNumber, noBlock, remembering}
 use Rattle.sender.specs.Turn.{turnOne, turnUpTo, numbersMoved, blocksMoved, turnedOf}
 use Rattle.sender.specs.Acknowledge.{acknowledging, namesUnsent, toldAnswer, toldNames, toldBy, readAnswer, acknowledgeAnswer}
 use Rattle.sender.specs.Tells.{acceptedNames}
 use Rattle.sender.specs.Tells as told
-use Rattle.sender.specs.Run.{namedIn}
+use Rattle.sender.specs.Remembering.{Sized}
+use Rattle.sender.specs.Run.{anyOf, acceptedIn, accepted-from, namedIn}
 use Rattle.endpoint.specs.Receive.{receiverOf, receiveAnswer}
 use Rattle.endpoint.specs.Calls.{Call, receives, acknowledges, callsOf}
 use Rattle.endpoint.specs.Calls as calls
-use Rattle.endpoint.specs.History.{OnlyData, OnlyAck, Between, nothing, tells, brings, taken, written, callFor, handedBy}
+use Rattle.endpoint.specs.History.{OnlyData, OnlyAck, Between, nothing, tells, brings, taken, written, callFor, after, handedBy}
 use Rattle.endpoint.specs.Steps.{data-no-ack, ack-answer}
 use Rattle.endpoint.specs.AnyOrderOfData as ofData
 use Rattle.endpoint.specs.AnyOrderOfAcknowledgements as ofAcks
-use Rattle.endpoint.specs.CanBeMet.{Reads, flags-of}
+use Rattle.endpoint.specs.CanBeMet.{Reads, flags-of, size-of}
+use Rattle.endpoint.specs.Brought.{any-in}
 use Rattle.endpoint.specs.UsedOutset.{usedReceiver, firstPlace, otherPlaces, number, block, usedSender, used, sender-consistent, used-sound, used-halves}
 
 -- DATA. Number 40 with block 31; number 43 with block 32, as it is held; AckOfAcks 42 and number 46 with block 35.
@@ -166,6 +170,22 @@ all-read : (Reads forty 4 × Reads again 4 × Reads waiving 20) × (Reads fiveAc
 unfolding readOf readPacket first swapped droppedBy endOf outside sixOf ackEnd overheadEnd delayEnd aoaEnd numberEnd vectorEnd channelEnd valuesOf packetOf partOf
 all-read = (((refl, refl), (refl, refl), (refl, refl)), ((refl, refl), (refl, refl), (refl, refl)))
 
+-- all of LogWindowSize 5
+all-sized : ((found forty .values .logwindow ≡ 5) × (found again .values .logwindow ≡ 5) × (found waiving .values .logwindow ≡ 5))
+    × ((found fiveAck .values .logwindow ≡ 5) × (found nineVector .values .logwindow ≡ 5) × (found neverSent .values .logwindow ≡ 5))
+unfolding readOf readPacket first swapped droppedBy endOf outside sixOf ackEnd overheadEnd delayEnd aoaEnd numberEnd vectorEnd channelEnd valuesOf packetOf partOf
+all-sized = ((refl, refl, refl), (refl, refl, refl))
+
+pub used-sized : (d : List ℕ) → In d usedSet → Sized 5 d
+used-sized d (List·Memᴰ·head e) = subst (Sized 5) (sym e) (size-of forty 5 (all-read .0 .0 .0) (all-sized .0 .0))
+used-sized d (List·Memᴰ·tail (List·Memᴰ·head e)) = subst (Sized 5) (sym e) (size-of again 5 (all-read .0 .1 .0) (all-sized .0 .1))
+used-sized d (List·Memᴰ·tail (List·Memᴰ·tail (List·Memᴰ·head e))) = subst (Sized 5) (sym e) (size-of waiving 5 (all-read .0 .2 .0) (all-sized .0 .2))
+
+pub acks-sized : (d : List ℕ) → In d usedAcks → Sized 5 d
+acks-sized d (List·Memᴰ·head e) = subst (Sized 5) (sym e) (size-of fiveAck 5 (all-read .1 .0 .0) (all-sized .1 .0))
+acks-sized d (List·Memᴰ·tail (List·Memᴰ·head e)) = subst (Sized 5) (sym e) (size-of nineVector 5 (all-read .1 .1 .0) (all-sized .1 .1))
+acks-sized d (List·Memᴰ·tail (List·Memᴰ·tail (List·Memᴰ·head e))) = subst (Sized 5) (sym e) (size-of neverSent 5 (all-read .1 .2 .0) (all-sized .1 .2))
+
 forty-data : OnlyData forty
 forty-data p q = inl (flags-of forty 4 (all-read .0 .0 .0) (all-read .0 .0 .1) p q)
 
@@ -216,7 +236,7 @@ unfolding acceptedNames
 accepted d a n e = rw e refl
 
 named-are : (n : ℕ) → namedIn 32 32 usedSender usedAcks n ≡ named n
-unfolding namedIn
+unfolding namedIn anyOf
 named-are n =
     let five : acceptedNames 32 32 usedSender fiveAck n ≡ leb n 5 = accepted fiveAck 0 n (answer fiveAck 0 (judged .0)) ∙ told-are n .0 in
     let nine : acceptedNames 32 32 usedSender nineVector n ≡ names (0x02 ∷ []) 8 n =
@@ -225,12 +245,14 @@ named-are n =
     rw (five, nine, never) refl
 
 -- Number 5 has turned, so low has passed 6 and 7 too and stands at 8, pending as before; 9 is received. Block 3 has turned, so channel low has passed 4 too.
+-- The LogWindowSize is theirs.
 abbrev pub settledSender : Sender
 settledSender =
     record {
       firstdata = record { 0 = 0 };
       firstchannel = record { 0 = 0 };
       timeout = 300;
+      logwindow = 5;
       low = record { 0 = 8 };
       next = record { 0 = 10 };
       channellow = record { 0 = 5 };
@@ -239,11 +261,11 @@ settledSender =
       blocks = replicate 5 noBlock ++ (block inFlight 3 ∷ block acknowledged 4 ∷ replicate 25 noBlock);
     }
 
-turned : turnedOf 32 acknowledging named usedSender ≡ settledSender
+turned : turnedOf 32 acknowledging named usedSender ≡ remembering 3 settledSender
 unfolding turnedOf turnOne turnUpTo numbersMoved blocksMoved slid names statesOf statesIn saysOf bitsOf
 turned = refl
 
-pub used-turned : turnedOf 32 acknowledging (namedIn 32 32 usedSender usedAcks) usedSender ≡ settledSender
+pub used-turned : turnedOf 32 acknowledging (namedIn 32 32 usedSender usedAcks) usedSender ≡ remembering 3 settledSender
 used-turned = ap (λ (chosen : ℕ → Bool). turnedOf 32 acknowledging chosen usedSender) (fun-ext named-are) ∙ turned
 
 used-acks : (d : List ℕ) → In d usedAcks → OnlyAck d
@@ -252,7 +274,7 @@ used-acks d (List·Memᴰ·tail (List·Memᴰ·head e)) = subst OnlyAck (sym e) 
 used-acks d (List·Memᴰ·tail (List·Memᴰ·tail (List·Memᴰ·head e))) = subst OnlyAck (sym e) never-ack
 
 -- THE CONCLUSION. In every history at this outset each acknowledgement gets its answer; and where the acknowledgements are these three, whatever their order and
--- repeats, and whatever stands between, the sender's half settles.
+-- repeats, and whatever stands between that carries LogWindowSize 5, the sender's half settles.
 module _ (cs : List Call) (ds : List (List ℕ)) (es : List Event) (b : Between cs ds es) where
   pub used-answered : (receiveAnswer 32 32 (callsOf 32 32 used cs .halves) fiveAck ≡ 0) × (receiveAnswer 32 32 (callsOf 32 32 used cs .halves) nineVector ≡ 0)
       × (receiveAnswer 32 32 (callsOf 32 32 used cs .halves) neverSent ≡ 8)
@@ -264,12 +286,37 @@ module _ (cs : List Call) (ds : List (List ℕ)) (es : List Event) (b : Between 
           ∙ ack-answer 32 32 (used .halves) d o (used-sound .receiver)
           ∙ answer d n e
 
-  pub sender-settles : ((d : List ℕ) → In d ds → In d usedAcks) → ((d : List ℕ) → In d usedAcks → In d ds)
+  pub sender-settles : ((d : List ℕ) → In d (datagramsOf es) → Sized 5 d) → ((d : List ℕ) → In d ds → In d usedAcks) → ((d : List ℕ) → In d usedAcks → In d ds)
       → callsOf 32 32 used cs .halves .sender ≡ settledSender
-  sender-settles there back =
-      ofAcks.any-order 32 32 (omega arith) (omega arith) used used-halves cs (map receives usedAcks) ds usedAcks there back es [] b (ofAcks.in-turn usedAcks used-acks)
+  unfolding datagramsOf
+  sender-settles sized there back =
+      ofAcks.any-order 32 32 (omega arith) (omega arith) used used-halves 5 cs (map receives usedAcks) ds usedAcks (λ d i. acks-sized d (there d i)) there back es [] b
+      (ofAcks.in-turn usedAcks used-acks) sized none-between (or-left _ _ five-accepted ∙ sym (or-left _ _ five-accepted))
       ∙ ofAcks.end-is 32 32 (omega arith) (omega arith) used used-halves (map receives usedAcks) usedAcks [] (ofAcks.in-turn usedAcks used-acks)
-      ∙ used-turned
+      ∙ ap (λ (k : ℕ). remembering k (turnedOf 32 acknowledging (namedIn 32 32 usedSender usedAcks) usedSender))
+      (ofAcks.window-moves 32 32 (omega arith) (omega arith) used used-halves (map receives usedAcks) usedAcks [] (ofAcks.in-turn usedAcks used-acks) 5 acks-sized none-between
+      (record {
+        datagram = fiveAck;
+        listed = List·Memᴰ·head refl;
+        packet = found fiveAck;
+        reads = all-read .1 .0 .0;
+        accepted = ack-answer 32 32 (used .halves) fiveAck five-ack (used-sound .receiver) ∙ answer fiveAck 0 (judged .0);
+      }))
+      ∙ ap (remembering 5) used-turned
+    where
+      none-between : (d : List ℕ) → In d (datagramsOf []) → Sized 5 d
+      none-between d i = clash false (any-in d [] i) refl
+
+      five-accepted : acceptedIn 32 32 usedSender ds ≡ true
+      five-accepted =
+          accepted-from 32 32 usedSender ds
+          (record {
+            datagram = fiveAck;
+            listed = back fiveAck (List·Memᴰ·head refl);
+            packet = found fiveAck;
+            reads = all-read .1 .0 .0;
+            accepted = answer fiveAck 0 (judged .0);
+          })
 
 -- And where the data are the three of the set, whatever their order and repeats, with takes and acknowledgements between, the three blocks are handed over, each once, in
 -- order, and the receiver's half settles.
@@ -285,6 +332,10 @@ module _ (cs : List Call) (ds : List (List ℕ)) (es : List Event) (b : Between 
       ap (λ (s : State). s .receiver) (ofAcks.receiver-alone 32 32 (omega arith) (omega arith) used used-halves cs ds (es ++ takesOf 32) b)
       ∙ ofData.any-order-taken 32 32 used usedSet used-are-a-set sender-consistent used-carry-data es from covers .2
       ∙ used-settled
+
+-- With no acknowledgement at all the sender's half is as at the outset, but for the LogWindowSize.
+pub used-hears : (es : List Event) → From usedSet es → Covers usedSet es → after 32 32 used es .halves .sender ≡ remembering 5 usedSender
+used-hears es from covers = ofData.sender-is 32 32 used usedSet used-are-a-set sender-consistent used-carry-data 5 used-sized es from covers
 
 -- One such history of both: out of order, with repeats, with takes and written acknowledgements between.
 abbrev pub usedEvents : List Event
@@ -335,5 +386,6 @@ pub both-settle : (handedBy 32 32 used usedCalls ≡ threeBlocks) × (callsOf 32
 both-settle = (
   blocks-handed usedCalls _ usedEvents both-between events-from events-cover,
   receiver-settles usedCalls _ usedEvents both-between events-from events-cover,
-  sender-settles usedCalls _ (usedEvents ++ takesOf 32) both-between acks-there acks-back,
+  sender-settles usedCalls _ (usedEvents ++ takesOf 32) both-between
+      (λ d i. used-sized d (events-from d (subst (λ (l : List (List ℕ)). In d l) (takes-bring usedEvents 32) i))) acks-there acks-back,
 )

@@ -43,9 +43,11 @@ pub fn open(firstdata: u32, firstchannel: u32, timeout: u32) -> Opened
 {
     let answer = open_answer(firstdata, firstchannel, timeout);
     if answer != 0 {
+        let mut zero = sender::opened(0, 0, 0);
+        zero.logwindow = 0;
         return Opened {
             answer,
-            sender: sender::opened(0, 0, 0),
+            sender: zero,
             receiver: receiver::opened(0, 0),
         };
     }

@@ -1,6 +1,7 @@
 // Runs the endpoint's own two calls by a script, on both sides of their boundaries: opening, and a datagram that concerns both halves. Shows one
 // line for each call: its name, the sum of the receiver's store where the call was lent it, the answer, and both records as the call left them. The calls are `open`, `send`
 // (a new block, so that there is something to acknowledge), `in` (a packet with these values arrives) and `bytes` (these bytes arrive).
+use common::Written;
 use receiver::Receiver;
 use sender::Sender;
 
@@ -37,6 +38,14 @@ fn opens(line: &[u8]) -> Pair {
     p
 }
 
+// Document 01's number for what a send wrote.
+fn number(w: Written) -> u8 {
+    match w {
+        Written::Refused(n) => n,
+        Written::Wrote(_) => 0,
+    }
+}
+
 // Sends a new block, with a store of its own: none is sent again here.
 fn sends(p: Pair, line: &[u8]) -> Pair {
     let mut sent = [0u8; window::STORE];
@@ -50,13 +59,14 @@ fn sends(p: Pair, line: &[u8]) -> Pair {
         &block[..n],
         &mut out,
     );
+    let w = got.written;
     let s = got.sender;
     let r = p.receiver;
     let q = Pair {
         sender: s,
         receiver: r,
     };
-    left(0, q);
+    left(number(w), q);
     q
 }
 

@@ -23,6 +23,7 @@ use Rattle.judging.specs.Judge.{numberOf, judgedOf}
 use Rattle.judging.specs.Judged.{judged-answer}
 use Rattle.sender.specs.declared.Sender.{Sender}
 use Rattle.acknowledging.specs.declared.Judged.{Judged}
+use Rattle.sender.specs.Record.{remembering}
 use Rattle.sender.specs.Consistent as senderTests
 use Rattle.sender.specs.Acknowledge.{acknowledging, Told, silent, toldAnswer, toldOf, toldBy}
 use Rattle.turning.specs.Chosen.{chosenBy}
@@ -142,20 +143,20 @@ module _ (w : ℕ) (s : Sender) (r : Receiver) (store d : List ℕ) where
 
         accepted : (t : Sender) (q : Receiver) (left : List ℕ) → n ≡ 0 → t ≡ toldOf w s (toldBy s d p)
             → q ≡ receiver.valuesOf w (receiving.state r store) d p .receiver → left ≡ receiver.valuesOf w (receiving.state r store) d p .store
-            → Gives w s r store d 0 t q left
+            → Gives w s r store d 0 (remembering (p .values .logwindow) t) q left
         unfolding packetAnswer packetOf
         accepted t q left h u v y =
             let z : eqb (receiver.valuesAnswer w r d p) 0 ≡ true = ap (λ (n : ℕ). eqb n 0) (sym answer-is) ∙ eq-eqb n 0 h in
-            packet-gives 0 t q left (rw accepted-first (sym h ∙ answer-is))
+            packet-gives 0 (remembering (p .values .logwindow) t) q left (rw accepted-first (sym h ∙ answer-is))
             (rw (accepted-first, z, u, v, y) refl)
 
         pub accepted-silent : (q : Receiver) (left : List ℕ) (b : Bool) → n ≡ 0 → b ≡ either (ackIn (p .values .flags)) (vectorIn (p .values .flags)) → b ≡ false
             → q ≡ receiver.valuesOf w (receiving.state r store) d p .receiver → left ≡ receiver.valuesOf w (receiving.state r store) d p .store
-            → Gives w s r store d 0 s q left
+            → Gives w s r store d 0 (remembering (p .values .logwindow) s) q left
         accepted-silent q left b h t f v y = accepted s q left h (silent-told w s d p (sym t ∙ f)) v y
 
         pub accepted-told : (j : Judged) (t : Sender) (q : Receiver) (left : List ℕ) → n ≡ 0 → j .answer ≡ 0 → appliedOf w s j ≡ toldOf w s (toldBy s d p)
             → t ≡ turnedOf w acknowledging (chosenBy w (j .flags) (j .upto)) s
             → q ≡ receiver.valuesOf w (receiving.state r store) d p .receiver → left ≡ receiver.valuesOf w (receiving.state r store) d p .store
-            → Gives w s r store d 0 t q left
+            → Gives w s r store d 0 (remembering (p .values .logwindow) t) q left
         accepted-told j t q left h k u c v y = accepted t q left h (c ∙ sym (applied-so w s j k) ∙ u) v y

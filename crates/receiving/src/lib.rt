@@ -29,8 +29,8 @@ fn tells(flags: u16) -> bool
     bits::flag(flags, wire::ACKVEC)
 }
 
-// Receives one datagram into both halves: both judge it before either changes. store is the receiver's, of 39,200 bytes. Refused with 13, then as
-// reading it, then with 8, then with 7.
+// Receives one datagram into both halves: both judge it before either changes. store is the receiver's, of 39,200 bytes. The sender's half remembers the
+// LogWindowSize of an accepted packet. Refused with 13, then as reading it, then with 8, then with 7.
 pub fn receive(s: Sender, r: Receiver, store: &mut [u8], d: &[u8]) -> Received
     ensures answer { λ x. ⌜ x .answer ≡ receiveAnswer 32 32 (halves s r (now (store .entry))) (now (d .entry)) ⌝ }
     ensures sender { λ x. ⌜ x .sender ≡ receiveOf 32 32 (halves s r (now (store .entry))) (now (d .entry)) .sender ⌝ }
@@ -90,14 +90,17 @@ pub fn receive(s: Sender, r: Receiver, store: &mut [u8], d: &[u8]) -> Received
             }
             let q = packet::apply(r, store, d, p, arrived);
             if !tells(values.flags) {
+                let mut t = s;
+                t.logwindow = values.logwindow;
                 return Received {
-                    sender: s,
+                    sender: t,
                     receiver: q,
                     answer: 0,
                 };
             }
             let flags = told.flags;
-            let t = turning::turn(s, flags, told.upto, sender::RECEIVED, sender::ACKNOWLEDGED);
+            let mut t = turning::turn(s, flags, told.upto, sender::RECEIVED, sender::ACKNOWLEDGED);
+            t.logwindow = values.logwindow;
             Received {
                 sender: t,
                 receiver: q,

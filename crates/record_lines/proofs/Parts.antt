@@ -49,10 +49,11 @@ pub sender-parts : (s : Sender)
     → between (ascii "sender.firstdata=") (s .firstdata .0) (ascii "\n")
     ++ (between (ascii "sender.firstchannel=") (s .firstchannel .0) (ascii "\n")
     ++ (between (ascii "sender.timeout=") (s .timeout) (ascii "\n")
+    ++ (between (ascii "sender.logwindow=") (s .logwindow) (ascii "\n")
     ++ (between (ascii "sender.low=") (s .low .0) (ascii "\n")
     ++ (between (ascii "sender.next=") (s .next .0) (ascii "\n")
     ++ (between (ascii "sender.channellow=") (s .channellow .0) (ascii "\n")
-    ++ between (ascii "sender.channelnext=") (s .channelnext .0) (ascii "\n"))))))
+    ++ between (ascii "sender.channelnext=") (s .channelnext .0) (ascii "\n")))))))
     ≡ senderFields s
 unfolding senderFields
 sender-parts s = simp (append-assoc, append-nil)

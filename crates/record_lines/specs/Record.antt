@@ -53,6 +53,7 @@ senderFields s =
     (line "sender.firstdata" (decimalOf (s .firstdata .0))
     ∷ line "sender.firstchannel" (decimalOf (s .firstchannel .0))
     ∷ line "sender.timeout" (decimalOf (s .timeout))
+    ∷ line "sender.logwindow" (decimalOf (s .logwindow))
     ∷ line "sender.low" (decimalOf (s .low .0))
     ∷ line "sender.next" (decimalOf (s .next .0))
     ∷ line "sender.channellow" (decimalOf (s .channellow .0))

@@ -134,16 +134,17 @@ fn receiver_places(out: &mut [u8], at: usize, r: Receiver) -> usize
 
 // The sender's single fields.
 fn sender_fields(out: &mut [u8], at: usize, s: Sender) -> usize
-    requires { ⌜ at + 259 ≤ length (now out) ⌝ }
-    ensures { λ r. ⌜ LaidWithin 259 (senderFields s) (now (out .entry)) at (now (out .exit)) r ⌝ }
+    requires { ⌜ at + 297 ≤ length (now out) ⌝ }
+    ensures { λ r. ⌜ LaidWithin 297 (senderFields s) (now (out .entry)) at (now (out .exit)) r ⌝ }
 {
     let at1 = entry(out, at, b"sender.firstdata=", s.firstdata.0);
     let at2 = entry(out, at1, b"sender.firstchannel=", s.firstchannel.0);
     let at3 = entry(out, at2, b"sender.timeout=", s.timeout as u64);
-    let at4 = entry(out, at3, b"sender.low=", s.low.0);
-    let at5 = entry(out, at4, b"sender.next=", s.next.0);
-    let at6 = entry(out, at5, b"sender.channellow=", s.channellow.0);
-    entry(out, at6, b"sender.channelnext=", s.channelnext.0)
+    let at4 = entry(out, at3, b"sender.logwindow=", s.logwindow as u64);
+    let at5 = entry(out, at4, b"sender.low=", s.low.0);
+    let at6 = entry(out, at5, b"sender.next=", s.next.0);
+    let at7 = entry(out, at6, b"sender.channellow=", s.channellow.0);
+    entry(out, at7, b"sender.channelnext=", s.channelnext.0)
 }
 
 // The receiver's single fields.
@@ -160,8 +161,8 @@ fn receiver_fields(out: &mut [u8], at: usize, r: Receiver) -> usize
 
 // The full record.
 pub fn full_record(out: &mut [u8], at: usize, s: Sender, r: Receiver) -> usize
-    requires { ⌜ at + 10141 ≤ length (now out) ⌝ }
-    ensures { λ x. ⌜ LaidWithin 10141 (recordText s r) (now (out .entry)) at (now (out .exit)) x ⌝ }
+    requires { ⌜ at + 10179 ≤ length (now out) ⌝ }
+    ensures { λ x. ⌜ LaidWithin 10179 (recordText s r) (now (out .entry)) at (now (out .exit)) x ⌝ }
 {
     let at1 = sender_fields(out, at, s);
     let at2 = sender_places(out, at1, s);

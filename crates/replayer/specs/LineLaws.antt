@@ -20,7 +20,7 @@ use Rattle.trace.specs.Words.{same}
 use Rattle.trace.specs.Numbers.{numberUnder, firstOf, onNumber, onPair}
 use Rattle.trace.specs.Kinds.{kindOf}
 use Rattle.trace.specs.Read.{dueOf, firstRead, timeoutRead, tickRead, kindRead, atFormat, atEdition, atFirst, atTimeout, atTick, atKind, nextOf, behindData, dataGood, dataBytes, Event, event, Events, events, andThen, Head, noHead, head, headOf, eventsOf}
-use Rattle.endpoint.specs.Open.{openAnswer, openedOf, freshPair}
+use Rattle.endpoint.specs.Open.{openAnswer, openedOf, freshPair, zeroPair}
 use Rattle.endpoint.specs.Calls.{Endpoint, callOf, callsOf}
 use Rattle.endpoint.specs.Fresh.{endpointOf, freshOf, opened-fresh}
 use Rattle.calling.specs.Asks.{callFor, callsFor}
@@ -212,7 +212,7 @@ open-fifteen : (d c t : ℕ) → eqb (openAnswer d c t) 0 ≡ false → openAnsw
 unfolding openAnswer
 open-fifteen d c t h = fifteen (ltb highestFirst d) (ltb highestFirst c) (ltb t shortestTimeout) (ltb longestTimeout t) h
 
-opened-refused : (d k t : ℕ) → eqb (openAnswer d k t) 0 ≡ false → openedOf 32 d k t ≡ freshPair 32 (openAnswer d k t) 0 0 0
+opened-refused : (d k t : ℕ) → eqb (openAnswer d k t) 0 ≡ false → openedOf 32 d k t ≡ zeroPair 32 (openAnswer d k t)
 unfolding openedOf
 opened-refused d k t q = rw q refl
 

@@ -8,7 +8,6 @@ ghost use Rattle.resending.specs.Lowest.{lowestOf};
 use carrying::Outcome;
 use common::Written;
 use numbers::ChannelNumber;
-use numbers::DataNumber;
 use sender::Sender;
 
 // The waiting block of lowest channel number, if any waits.
@@ -67,7 +66,7 @@ pub fn resend(s: Sender, store: &[u8], tick: u32, out: &mut [u8]) -> Outcome
             sender: s,
         };
     }
-    if low.0 + DataNumber::WINDOW <= next.0 {
+    if sender::at_limit(low, next, s.logwindow) {
         return Outcome {
             written: Written::Refused(9),
             sender: s,

@@ -16,7 +16,7 @@ use Rattle.wire.specs.Flags.{ackIn, vectorIn}
 use Rattle.wire.specs.Read.{numberOf, readOf}
 use Rattle.wire.specs.Same.{codedIn}
 use Rattle.sender.specs.declared.Sender.{Sender}
-use Rattle.sender.specs.Record.{received, acknowledged}
+use Rattle.sender.specs.Record.{received, acknowledged, remembering}
 use Rattle.sender.specs.Consistent.{consistentOf}
 use Rattle.sender.specs.Turn.{Turn, turnedOf}
 
@@ -80,6 +80,13 @@ toldBy s d p =
     cond (ackIn (p .values .flags)) (upTo (widenOf (s .next .0) (p .values .ack .number)))
     (cond (vectorIn (p .values .flags)) (listed (widenOf (s .next .0) (p .values .vector .base)) (codedIn d p)) silent)
 
+-- an accepted packet of type 0, whatever its flags: what it tells, and its LogWindowSize (document 02, W5: "the field of the last accepted data-type packet")
+abbrev pub packetTold : ℕ → Sender → List ℕ → Packet → Sender
+packetTold w s d p = remembering (p .values .logwindow) (toldOf w s (toldBy s d p))
+
+unfoldable pub packetOf : ℕ → Sender → List ℕ → Packet → Sender
+packetOf w s d p = cond (eqb (toldAnswer s (toldBy s d p)) 0) (packetTold w s d p) s
+
 -- one datagram into the sender's half: 13, then reading, then 8; a dummy changes nothing
 unfoldable pub readAnswer : Sender → List ℕ → Reading → ℕ
 readAnswer s d (Refused n) = numberOf (Refused n)
@@ -89,7 +96,7 @@ readAnswer s d (Read p) = toldAnswer s (toldBy s d p)
 unfoldable pub readInto : ℕ → Sender → List ℕ → Reading → Sender
 readInto w s d (Refused n) = s
 readInto w s d Dummy = s
-readInto w s d (Read p) = toldOf w s (toldBy s d p)
+readInto w s d (Read p) = packetOf w s d p
 
 unfoldable pub acknowledgeAnswer : ℕ → ℕ → Sender → List ℕ → ℕ
 acknowledgeAnswer w cap s d = cond (consistentOf w cap s) (readAnswer s d (readOf d)) 13

@@ -1,7 +1,8 @@
 -- The record that opening makes: "Opening gives the first of each .. and a loss timeout"; nothing is sent, so both lows and both nexts stand at their firsts and
--- every place is zero.
+-- every place is zero. "Before any packet the limit is 32" (document 02, W5): the field is 5, as in the packets that we write.
 use Prim.Native.Nat.{ℕ}
 use lib.ListN.{replicate}
+use Rattle.wire.specs.Layout.{logWindow}
 use Rattle.sender.specs.declared.Sender.{Sender}
 use Rattle.sender.specs.Record.{noNumber, noBlock}
 
@@ -11,6 +12,7 @@ freshOf cap firstdata firstchannel timeout =
       firstdata = record { 0 = firstdata };
       firstchannel = record { 0 = firstchannel };
       timeout = timeout;
+      logwindow = logWindow;
       low = record { 0 = firstdata };
       next = record { 0 = firstdata };
       channellow = record { 0 = firstchannel };

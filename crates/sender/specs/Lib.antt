@@ -18,6 +18,7 @@ pub mod PlaceTests
 pub mod Facts
 pub mod TurnedWants
 pub mod Turned
+pub mod Remembering
 pub mod TurnedFacts
 pub mod SentFacts
 pub mod SendReady

@@ -17,6 +17,7 @@ use Rattle.sender.specs.Record.{isPending, numberAt}
 use Rattle.sender.specs.Consistent.{rangeFits, timeoutFits, zeroNumber, zeroBlock, numberFits, carries, oneCarrier, blockFits, numberOk, blockOk, spareNumber, spareBlock, consistentOf}
 use Rattle.sender.specs.Turn.{turnOne, turnUpTo, numbersMoved, blocksMoved, turnedOf}
 use Rattle.sender.specs.Acknowledge.{acknowledgedOf, toldAnswer, toldNames, toldOf, toldBy, readAnswer, readInto, acknowledgeAnswer, acknowledgeOf}
+use Rattle.sender.specs.Acknowledge as told
 use Rattle.sender.specs.Send.{sentOf}
 use Rattle.sender.specs.Run.{run}
 
@@ -43,5 +44,5 @@ pub one-acknowledged : (acknowledgeAnswer 32 32 oneOut oneAck ≡ 0) × (run 32 
     × (run 32 32 oneOut (oneAck ∷ oneAck ∷ []) .channellow .0 ≡ 1)
 unfolding consistentOf rangeFits timeoutFits every allBelow countBelow implies zeroNumber zeroBlock numberFits carries oneCarrier blockFits numberOk blockOk spareNumber
     spareBlock first swapped endOf droppedBy sixOf outside ackEnd overheadEnd delayEnd aoaEnd numberEnd vectorEnd channelEnd valuesOf packetOf partOf readPacket
-    readOf widenOf toldBy toldAnswer toldNames toldOf acknowledgedOf readAnswer readInto acknowledgeAnswer acknowledgeOf turnOne turnUpTo numbersMoved blocksMoved turnedOf slid run
+    readOf widenOf toldBy toldAnswer toldNames toldOf told.packetOf acknowledgedOf readAnswer readInto acknowledgeAnswer acknowledgeOf turnOne turnUpTo numbersMoved blocksMoved turnedOf slid run
 one-acknowledged = (refl, refl, refl)

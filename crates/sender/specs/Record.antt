@@ -1,5 +1,5 @@
 -- The sender's record, over a window of w: "32 places for data numbers from low up to next (pending, received or lost; channel number; tick sent) and 32 for
--- blocks from channel low up to channel next (in flight, waiting or acknowledged; length)."
+-- blocks from channel low up to channel next (in flight, waiting or acknowledged; length)." And the peer's LogWindowSize (document 02, W5).
 use Prim.Native.Nat.{ℕ}
 use mathlib.Core.Bool.{Bool, cond, true}
 use mathlib.Core.List.{List}
@@ -80,6 +80,22 @@ numberPasses p = cond (isReceived p) true (isLost p)
 
 abbrev pub blockPasses : BlockPlace → Bool
 blockPasses b = isAcknowledged b
+
+-- the record with another LogWindowSize: document 02, W5, "The sender now remembers the field of the last accepted data-type packet"
+abbrev pub remembering : ℕ → Sender → Sender
+remembering logwindow s =
+    record {
+      firstdata = s .firstdata;
+      firstchannel = s .firstchannel;
+      timeout = s .timeout;
+      logwindow = logwindow;
+      low = s .low;
+      next = s .next;
+      channellow = s .channellow;
+      channelnext = s .channelnext;
+      numbers = s .numbers;
+      blocks = s .blocks;
+    }
 
 -- the record's two windows
 abbrev pub numbersOf : Sender → Win NumberPlace

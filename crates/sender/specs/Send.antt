@@ -1,5 +1,5 @@
 -- New block and resend. "Each data packet we write has AOA (low before this send) and DATA, nothing else."
-use Prim.Native.Nat.{ℕ, zero, suc, _+_, _-_, _%_}
+use Prim.Native.Nat.{ℕ, zero, suc, _+_, _-_, _%_, _^_, min}
 use mathlib.Core.Bool.{Bool, true, false, cond, not}
 use mathlib.Core.Option.{Option, none, some}
 use mathlib.Core.List.{List, [], _∷_}
@@ -44,6 +44,7 @@ sentOf w s tick c length channelnext =
       firstdata = s .firstdata;
       firstchannel = s .firstchannel;
       timeout = s .timeout;
+      logwindow = s .logwindow;
       low = s .low;
       next = record { 0 = s .next .0 + 1 };
       channellow = s .channellow;
@@ -52,6 +53,14 @@ sentOf w s tick c length channelnext =
       blocks = set (s .blocks) (c % w) (record { state = inFlight; length = length });
     }
 
+-- document 02, W5: "the smaller of 32 and 2 to that power", for the LogWindowSize that the sender remembers
+unfoldable pub limitOf : ℕ → ℕ → ℕ
+limitOf w logwindow = min w (2 ^ logwindow)
+
+-- "refuses a new send or a resend with 9 if next minus low is at least" that limit; it is at most w, so a range of w numbers is among these (SendReady, full-is-full)
+unfoldable pub numbersFull : ℕ → Sender → Bool
+numbersFull w s = leb (limitOf w (s .logwindow)) (s .next .0 - s .low .0)
+
 -- "New block: pending and in flight. 9 exactly if either range already has 32. 12 exactly if next or channel next has passed the full range."
 -- "New block: 13, 10, 12, 9, 14"; 10 is "over 1,223 bytes given to the new-block call"
 abbrev pub newTests : ℕ → ℕ → State → List ℕ → ℕ → List Test
@@ -59,7 +68,7 @@ newTests w cap s block room =
     test (not (soundOf w cap (s .sender) (length (s .store)))) 13
     ∷ test (ltb longestSent (length block)) 10
     ∷ test (cond (ltb highest (s .sender .next .0)) true (ltb highest (s .sender .channelnext .0))) 12
-    ∷ test (cond (leb (s .sender .low .0 + w) (s .sender .next .0)) true (leb (s .sender .channellow .0 + w) (s .sender .channelnext .0))) 9
+    ∷ test (cond (numbersFull w (s .sender)) true (leb (s .sender .channellow .0 + w) (s .sender .channelnext .0))) 9
     ∷ test (ltb room (length (dataDatagram (s .sender) (s .sender .channelnext .0) block))) 14
     ∷ []
 
@@ -105,7 +114,7 @@ resendTests w cap s room =
     test (not (soundOf w cap (s .sender) (length (s .store)))) 13
     ∷ test (isNone (lowestWaiting w (s .sender))) 11
     ∷ test (ltb highest (s .sender .next .0)) 12
-    ∷ test (leb (s .sender .low .0 + w) (s .sender .next .0)) 9
+    ∷ test (numbersFull w (s .sender)) 9
     ∷ test (ltb room (length (resendDatagram w s))) 14
     ∷ []
 

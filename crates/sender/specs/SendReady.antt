@@ -1,15 +1,15 @@
 -- What answer 0 of the two sending calls tells: the number and the block may go out.
-use Prim.Native.Nat.{ℕ, zero, suc, _+_, _-_, _%_, _≤_, _<_}
+use Prim.Native.Nat.{ℕ, zero, suc, _+_, _-_, _%_, _^_, _≤_, _<_}
 use mathlib.Core.Bool.{Bool, true, false, cond}
 use mathlib.Core.List.{List, [], _∷_}
 use mathlib.Core.Option.{Option, none, some}
 use mathlib.Core.Logic.{⊎-elim}
 use mathlib.Core.Path.{_≡_, refl, sym, _∙_, ap}
-use native.Mathlib.Nat.{mod-lt, mul-le-mul-right, suc-mul}
+use native.Mathlib.Nat.{min-le-left, mod-lt, mul-le-mul-right, suc-mul}
 use native.Mathlib.Omega.{arith}
 use lib.Dec.{eqb}
 use lib.ListN.{length}
-use borrow.Author.Tests.{eqb-true, ltb-false, leb-false, not-false}
+use borrow.Author.Tests.{eqb-true, ltb-false, leb-false, le-leb, not-false}
 use Rattle.common.specs.EveryLaws.{every-all}
 use Rattle.common.specs.Order.{first-pass}
 use Rattle.common.specs.Facts.{lt-or-ge, bool, clash}
@@ -19,7 +19,7 @@ use Rattle.sender.specs.declared.BlockPlace.{BlockPlace}
 use Rattle.sender.specs.declared.Sender.{Sender}
 use Rattle.sender.specs.Record.{longestSent, State, isWaiting, isInFlight, inFlight, waiting, blockAt}
 use Rattle.sender.specs.Consistent.{consistentOf, soundOf}
-use Rattle.sender.specs.Send.{newAnswer, waitingFrom, lowestWaiting, isNone, resendAnswer}
+use Rattle.sender.specs.Send.{limitOf, numbersFull, newAnswer, waitingFrom, lowestWaiting, isNone, resendAnswer}
 use Rattle.sender.specs.Facts.{Facts}
 use Rattle.sender.specs.SentFacts.{Ready}
 
@@ -32,6 +32,21 @@ pub sound-facts : (w cap : ℕ) (s : Sender) (size : ℕ) → soundOf w cap s si
 unfolding soundWith
 sound-facts w cap s size h =
     let k = every-all (consistentOf w cap s ∷ eqb size (storeSize w) ∷ []) h in (k .0, eqb-true _ _ (k .1 .0))
+
+-- The limit is at most the window,
+limit-least : (w k : ℕ) → limitOf w k ≤ w
+unfolding limitOf
+limit-least w k = min-le-left w (2 ^ k)
+
+-- so where the data numbers are below it there is room in the window,
+room-under : (w : ℕ) (s : Sender) → numbersFull w s ≡ false → s .next .0 < s .low .0 + w
+unfolding numbersFull
+room-under w s h = omega (arith, leb-false (limitOf w (s .logwindow)) (s .next .0 - s .low .0) h, limit-least w (s .logwindow))
+
+-- and a range that already has w numbers is full, as before document 02's W5, whatever the peer's LogWindowSize.
+pub full-is-full : (w : ℕ) (s : Sender) → s .low .0 + w ≤ s .next .0 → numbersFull w s ≡ true
+unfolding numbersFull
+full-is-full w s l = le-leb (limitOf w (s .logwindow)) (s .next .0 - s .low .0) (omega (arith, limit-least w (s .logwindow)))
 
 -- what an accepted new block has
 pub record New (w cap : ℕ) (s : State) (block : List ℕ) : Type 0 where
@@ -56,7 +71,7 @@ new-accepted w cap s block room h =
       short = ltb-false _ _ t2;
       left = ltb-false _ _ a;
       channelleft = ltb-false _ _ b;
-      room = leb-false _ _ c;
+      room = room-under w (s .sender) c;
       channelroom = leb-false _ _ d;
     }
 
@@ -119,7 +134,7 @@ resend-accepted w cap s room h =
     let (t2, r2) = first-pass _ _ _ (omega arith) r1 in
     let (t3, r3) = first-pass _ _ _ (omega arith) r2 in
     let (t4, r4) = first-pass _ _ _ (omega arith) r3 in
-    record { sound = not-false _ t1; found = t2; left = ltb-false _ _ t3; room = leb-false _ _ t4 }
+    record { sound = not-false _ t1; found = t2; left = ltb-false _ _ t3; room = room-under w (s .sender) t4 }
 
 pub resend-ready : (w cap : ℕ) (s : State) (c : ℕ) → Facts w cap (s .sender) → Again w cap s → lowestWaiting w (s .sender) ≡ some c
     → Ready w (s .sender) c (blockAt w (s .sender) c .length) (s .sender .channelnext .0)

@@ -1,4 +1,4 @@
--- What one datagram does to the sender's half: it turns the numbers that it names to received, if it is accepted. What it names and whether it is accepted depend on the
+-- What one datagram does to the sender's half: it turns the numbers that it names to received, if it is accepted, and its LogWindowSize is remembered. What it names and whether it is accepted depend on the
 -- first number and on next alone, which no acknowledgement changes.
 use Prim.Native.Nat.{ℕ}
 use mathlib.Core.Bool.{Bool, true, false, cond}
@@ -14,11 +14,12 @@ use Rattle.wire.specs.Flags.{ackIn, vectorIn}
 use Rattle.wire.specs.Read.{readOf}
 use Rattle.wire.specs.Same.{codedIn}
 use Rattle.sender.specs.declared.Sender.{Sender}
+use Rattle.sender.specs.Record.{remembering}
 use Rattle.sender.specs.Consistent.{consistentOf}
-use Rattle.sender.specs.Acknowledge.{acknowledging, acknowledgedOf, Told, silent, upTo, listed, upToAnswer, listedAnswer, toldAnswer, toldNames, toldOf, toldBy, readAnswer, readInto, acknowledgeAnswer, acknowledgeOf}
+use Rattle.sender.specs.Acknowledge.{acknowledging, acknowledgedOf, Told, silent, upTo, listed, upToAnswer, listedAnswer, toldAnswer, toldNames, toldOf, toldBy, packetOf, readAnswer, readInto, acknowledgeAnswer, acknowledgeOf}
 use Rattle.sender.specs.Facts.{Facts, facts-consistent}
 use Rattle.sender.specs.TurnedWants.{acknowledging-ends}
-use Rattle.sender.specs.Turned.{Turned, eitherOf, or-none, turned-alike, turned-again}
+use Rattle.sender.specs.Turned.{Turned, eitherOf, or-none, turned-alike, turned-again, turned-remembering}
 use Rattle.sender.specs.TurnedFacts.{turned-facts}
 
 -- what a datagram tells: nothing, unless it reads
@@ -101,12 +102,22 @@ module _ {w cap : ℕ} {s : Sender} (f : Facts w cap s) {chosen : ℕ → Bool} 
   told-turned (upTo x) = by-test (eqb (toldAnswer q (upTo x)) 0) (toldNames (upTo x))
   told-turned (listed x v) = by-test (eqb (toldAnswer q (listed x v)) 0) (toldNames (listed x v))
 
+  -- a packet that is accepted tells, and its LogWindowSize k is remembered
+  packet-turned : (m : Told) (k : ℕ) → Turned w cap acknowledging s (eitherOf chosen (λ n. cond (eqb (toldAnswer q m) 0) (toldNames m n) false))
+      (cond (eqb (toldAnswer q m) 0) (remembering k (toldOf w q m)) q)
+  packet-turned m k = go (eqb (toldAnswer q m) 0) refl
+    where
+      go : (b : Bool) → eqb (toldAnswer q m) 0 ≡ b → Turned w cap acknowledging s (eitherOf chosen (λ n. cond (eqb (toldAnswer q m) 0) (toldNames m n) false))
+          (cond b (remembering k (toldOf w q m)) q)
+      go true e = turned-remembering k (told-turned m)
+      go false e = as-before _ (λ n. sym (ap (λ (x : Bool). cond x (toldNames m n) false) e))
+
   read-turned : (d : List ℕ) (r : Reading)
       → Turned w cap acknowledging s (eitherOf chosen (λ n. cond (eqb (readAnswer q d r) 0) (toldNames (tells q d r) n) false)) (readInto w q d r)
-  unfolding readAnswer readInto tells toldNames
+  unfolding readAnswer readInto packetOf tells toldNames
   read-turned d (Refused k) = as-before _ (λ n. cond-none (eqb k 0))
   read-turned d Dummy = as-before _ (λ n. refl)
-  read-turned d (Read p) = told-turned (toldBy q d p)
+  read-turned d (Read p) = packet-turned (toldBy q d p) (p .values .logwindow)
 
   -- One datagram more: the numbers that it names are chosen besides.
   pub datagram-turned : (d : List ℕ) → Turned w cap acknowledging s (eitherOf chosen (acceptedNames w cap q d)) (acknowledgeOf w cap q d)

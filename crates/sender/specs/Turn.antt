@@ -27,6 +27,7 @@ turnedAt w t s n =
       firstdata = s .firstdata;
       firstchannel = s .firstchannel;
       timeout = s .timeout;
+      logwindow = s .logwindow;
       low = s .low;
       next = s .next;
       channellow = s .channellow;
@@ -51,6 +52,7 @@ withNumbers s m =
       firstdata = s .firstdata;
       firstchannel = s .firstchannel;
       timeout = s .timeout;
+      logwindow = s .logwindow;
       low = record { 0 = m .base };
       next = s .next;
       channellow = s .channellow;
@@ -65,6 +67,7 @@ withBlocks s m =
       firstdata = s .firstdata;
       firstchannel = s .firstchannel;
       timeout = s .timeout;
+      logwindow = s .logwindow;
       low = s .low;
       next = s .next;
       channellow = record { 0 = m .base };

@@ -13,12 +13,12 @@ use Rattle.window.specs.Alike.{weak-alike, inv-only}
 use Rattle.sender.specs.declared.NumberPlace.{NumberPlace}
 use Rattle.sender.specs.declared.BlockPlace.{BlockPlace}
 use Rattle.sender.specs.declared.Sender.{Sender}
-use Rattle.sender.specs.Record.{isPending, numberPasses, blockPasses, noNumber, noBlock, numbersOf, blocksOf, numberAt, blockAt}
+use Rattle.sender.specs.Record.{isPending, numberPasses, blockPasses, noNumber, noBlock, remembering, numbersOf, blocksOf, numberAt, blockAt}
 use Rattle.sender.specs.Turn.{Turn, inState, blockInState, turnedAt, turnOne, turnUpTo, numbersMoved, blocksMoved, turnedOf}
 use Rattle.sender.specs.Facts.{Facts, number-shape, block-shape}
 use Rattle.sender.specs.TurnedWants.{Ending, turn-unchosen, turn-chosen, turn-pending, pending-stands, flying-stands, block-unchosen, block-chosen, blockChosen, chosen-at, chosen-from, not-chosen, wantNumber, wantBlock, want-number, want-number-off, want-block, want-block-off, number-by, block-by, Agree, number-alike, block-alike}
 
--- each place from the lows on holds what it should; all else is as it was
+-- each place from the lows on holds what it should; all else is as it was, but for the peer's LogWindowSize, of which nothing is said
 pub record Turning (w cap : ℕ) (t : Turn) (s : Sender) (chosen : ℕ → Bool) (q : Sender) : Type 0 where
   pub firstdata : q .firstdata .0 ≡ s .firstdata .0
   pub firstchannel : q .firstchannel .0 ≡ s .firstchannel .0
@@ -33,6 +33,25 @@ pub record Turned (w cap : ℕ) (t : Turn) (s : Sender) (chosen : ℕ → Bool) 
   pub turning : Turning w cap t s chosen q
   pub lowStands : numberPasses (wantNumber w t s chosen (q .low .0)) ≡ false
   pub channelStands : blockPasses (wantBlock w t s chosen (q .channellow .0)) ≡ false
+
+-- Another LogWindowSize, and the same has turned.
+pub turned-remembering : {w cap : ℕ} {t : Turn} {s : Sender} {chosen : ℕ → Bool} {q : Sender} (k : ℕ)
+    → Turned w cap t s chosen q → Turned w cap t s chosen (remembering k q)
+turned-remembering k a =
+    let b = a .turning in
+    record {
+      turning = record {
+        firstdata = b .firstdata;
+        firstchannel = b .firstchannel;
+        timeout = b .timeout;
+        next = b .next;
+        channelnext = b .channelnext;
+        numbers = b .numbers;
+        blocks = b .blocks;
+      };
+      lowStands = a .lowStands;
+      channelStands = a .channelStands;
+    }
 
 -- chosen by the one or by the other; nothing chosen
 abbrev pub eitherOf : (ℕ → Bool) → (ℕ → Bool) → ℕ → Bool
@@ -59,7 +78,7 @@ low-kept w t g q (suc i) = one-low w t g (turnUpTo w t g q i) (q .low .0 + i) �
 abbrev pub upTo : (ℕ → Bool) → (ℕ → Bool) → ℕ → ℕ → Bool
 upTo chosen g b n = chosen n || cond (ltb n b) (g n) false
 
-both-hold : (a b : Bool) → cond a b false ≡ true → (a ≡ true) × (b ≡ true)
+pub both-hold : (a b : Bool) → cond a b false ≡ true → (a ≡ true) × (b ≡ true)
 both-hold true b h = (refl, h)
 both-hold false b h = clash false h refl
 
@@ -79,9 +98,9 @@ up-to-next true y a b p q = refl
 up-to-next false y a b p q = ap (λ (z : Bool). cond z y false) p ∙ sym (ap (λ (z : Bool). cond z y false || y) q)
 
 module _ {w cap : ℕ} {t : Turn} {s : Sender} (e : Ending t) (f : Facts w cap s) where
-  -- Only one record fits.
-  pub turned-only : {chosen : ℕ → Bool} {q r : Sender} → Turned w cap t s chosen q → Turned w cap t s chosen r → q ≡ r
-  turned-only {chosen} {q} {r} a b =
+  -- Only one record with this LogWindowSize fits.
+  pub turned-only : {chosen : ℕ → Bool} {q r : Sender} → Turned w cap t s chosen q → Turned w cap t s chosen r → q .logwindow ≡ r .logwindow → q ≡ r
+  turned-only {chosen} {q} {r} a b k =
       let x = a .turning in
       let y = b .turning in
       let ns = inv-only (number-shape (f .some) (f .fits)) (record { weak = x .numbers; stands = a .lowStands }) (record { weak = y .numbers; stands = b .lowStands }) in
@@ -90,6 +109,7 @@ module _ {w cap : ℕ} {t : Turn} {s : Sender} (e : Ending t) (f : Facts w cap s
         firstdata = record { 0 = (x .firstdata ∙ sym (y .firstdata)) i };
         firstchannel = record { 0 = (x .firstchannel ∙ sym (y .firstchannel)) i };
         timeout = (x .timeout ∙ sym (y .timeout)) i;
+        logwindow = k i;
         low = record { 0 = ns i .base };
         next = record { 0 = (x .next ∙ sym (y .next)) i };
         channellow = record { 0 = bs i .base };

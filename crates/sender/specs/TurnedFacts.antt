@@ -16,6 +16,7 @@ use Rattle.sender.specs.Consistent.{consistentOf}
 use Rattle.sender.specs.Turn.{Turn, turnedOf}
 use Rattle.sender.specs.Facts.{Bounds, Out, Done, Carrier, Facts, number-shape, block-shape, consistent-facts, facts-consistent}
 use Rattle.sender.specs.TurnedWants.{Ending, turnNumber, turn-not, turn-unchosen, turn-chosen, turn-channel, turnBlock, block-unchosen, block-chosen, block-length, block-flies, resting, block-rests, blockChosen, chosen-from, not-chosen, wantNumber, wantBlock, want-number, want-number-off, want-block, want-block-off}
+use Rattle.sender.specs.Remembering.{turned-window}
 use Rattle.sender.specs.Turned.{Turning, Turned, pending-before, pending-after, block-after, turned-is, turned-only, turned-none, nothing}
 
 module _ {w cap : ℕ} {t : Turn} {s : Sender} (e : Ending t) (f : Facts w cap s) where
@@ -239,4 +240,4 @@ turned-keeps w cap t e chosen s lw uw h =
 module _ (w cap : ℕ) (t : Turn) (e : Ending t) (s : Sender) (lw : 0 < w) (uw : w ≤ cap) (h : consistentOf w cap s ≡ true) where
   -- Choosing nothing changes nothing.
   pub turned-nothing : turnedOf w t nothing s ≡ s
-  turned-nothing = let k = consistent-facts w cap s lw uw h in turned-only e k (turned-is e k nothing) (turned-none e k)
+  turned-nothing = let k = consistent-facts w cap s lw uw h in turned-only e k (turned-is e k nothing) (turned-none e k) (turned-window w t nothing s)

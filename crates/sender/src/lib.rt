@@ -3,8 +3,10 @@
 // A record goes in by value and comes back by value; sent blocks stand in a store that the host lends, 1,225 bytes to a place.
 ghost use mathlib.Core.Path.{_≡_};
 ghost use mathlib.Core.Bool.{true, cond};
-ghost use lib.Dec.{eqb};
+ghost use Prim.Native.Nat.{_-_, _≤_};
+ghost use lib.Dec.{eqb, leb};
 ghost use Rattle.sender.specs.Fresh.{freshOf};
+ghost use Rattle.sender.specs.Send.{limitOf};
 use numbers::ChannelNumber;
 use numbers::DataNumber;
 
@@ -63,6 +65,8 @@ pub struct Sender {
     pub firstchannel: ChannelNumber,
     // The loss timeout, in milliseconds.
     pub timeout: u32,
+    // The LogWindowSize of the last accepted packet of the peer's; 5 at first.
+    pub logwindow: u8,
     // The first pending data number, or next; numbers from here up to next are in range.
     pub low: DataNumber,
     // The data number of the next send.
@@ -87,6 +91,7 @@ pub fn opened(firstdata: u16, firstchannel: u16, timeout: u32) -> Sender
         firstdata: DataNumber(data),
         firstchannel: ChannelNumber(channel),
         timeout,
+        logwindow: wire::LOGWINDOW,
         low: DataNumber(data),
         next: DataNumber(data),
         channellow: ChannelNumber(channel),
@@ -101,6 +106,24 @@ pub fn opened(firstdata: u16, firstchannel: u16, timeout: u32) -> Sender
             length: 0,
         }; 32],
     }
+}
+
+// How many data numbers may be out at a peer with this LogWindowSize: 2 to that power, and at most the window.
+fn limit(logwindow: u8) -> u64
+    ensures { λ r. ⌜ r ≡ limitOf 32 logwindow ⌝ }
+{
+    if wire::LOGWINDOW <= logwindow {
+        return DataNumber::WINDOW;
+    }
+    1u64 << logwindow
+}
+
+// Are as many data numbers out, from low up to next, as the peer's LogWindowSize allows?
+pub fn at_limit(low: DataNumber, next: DataNumber, logwindow: u8) -> bool
+    requires { ⌜ low .0 ≤ next .0 ⌝ }
+    ensures { λ r. ⌜ r ≡ leb (limitOf 32 logwindow) (next .0 - low .0) ⌝ }
+{
+    limit(logwindow) <= next.0 - low.0
 }
 
 // Does low pass a number in this state?

@@ -32,12 +32,13 @@ pub record Ranges (w low next firstchannel channellow channelnext : ℕ) : Type 
   pub channels : rangeFits w firstchannel channellow channelnext ≡ true
 
 -- the record of these parts
-abbrev pub senderOf : ℕ → ℕ → List NumberPlace → List BlockPlace → ℕ → ℕ → ℕ → ℕ → ℕ → Sender
-senderOf firstdata timeout numbers blocks low next firstchannel channellow channelnext =
+abbrev pub senderOf : ℕ → ℕ → ℕ → List NumberPlace → List BlockPlace → ℕ → ℕ → ℕ → ℕ → ℕ → Sender
+senderOf firstdata timeout logwindow numbers blocks low next firstchannel channellow channelnext =
     record {
       firstdata = record { 0 = firstdata };
       firstchannel = record { 0 = firstchannel };
       timeout = timeout;
+      logwindow = logwindow;
       low = record { 0 = low };
       next = record { 0 = next };
       channellow = record { 0 = channellow };
@@ -59,7 +60,7 @@ pub record Walked (w : ℕ) (s : Sender) (fits : Bool) (marks : List Bool) : Typ
   pub numbers : fits ≡ true → allBelow (numberOk w s) (s .next .0 - s .low .0) ≡ true
   pub marked : fits ≡ true → Marked w s marks (s .next .0 - s .low .0)
 
--- the same of the record's parts, whatever the first data number and the timeout are
+-- the same of the record's parts, whatever the first data number, the timeout and the LogWindowSize are
 abbrev pub WalkedParts : ℕ → List NumberPlace → List BlockPlace → ℕ → ℕ → ℕ → ℕ → ℕ → Bool → List Bool → Type 0
 WalkedParts w numbers blocks low next firstchannel channellow channelnext fits marks =
-    (firstdata timeout : ℕ) → Walked w (senderOf firstdata timeout numbers blocks low next firstchannel channellow channelnext) fits marks
+    (firstdata timeout logwindow : ℕ) → Walked w (senderOf firstdata timeout logwindow numbers blocks low next firstchannel channellow channelnext) fits marks

@@ -16,6 +16,7 @@ fn stands(line: &[u8]) -> Sender {
         firstdata: DataNumber(0),
         firstchannel: ChannelNumber(0),
         timeout: 300,
+        logwindow: script_packets::byte(line, b"logwindow="),
         low: next,
         next,
         channellow: channelnext,

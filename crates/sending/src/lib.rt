@@ -1,12 +1,12 @@
 // A new block: judged first, then written, and only then the record and the store change. `resending` sends one again.
 ghost use mathlib.Core.Path.{_≡_};
 ghost use mathlib.Core.Bool.{true, cond};
-ghost use Prim.Native.Nat.{_+_, _≤_};
+ghost use Prim.Native.Nat.{_+_, _-_, _≤_};
 ghost use lib.ListN.{length};
 ghost use lib.Dec.{leb, ltb};
 ghost use Rattle.common.specs.Answer.{writtenOf, leftOf};
 ghost use Rattle.numbers.specs.Full.{highest, pastHighest};
-ghost use Rattle.sender.specs.Send.{newAnswer, newDatagram, newOf};
+ghost use Rattle.sender.specs.Send.{limitOf, newAnswer, newDatagram, newOf};
 ghost use Rattle.sender.specs.Record.{state};
 use carrying::Outcome;
 use common::Written;
@@ -24,17 +24,18 @@ fn used_up(next: DataNumber, channelnext: ChannelNumber) -> bool
     numbers::HIGHEST < channelnext.0
 }
 
-// Is a window full?
+// Is a window full, with the peer's LogWindowSize?
 fn full(
     low: DataNumber,
     next: DataNumber,
+    logwindow: u8,
     channellow: ChannelNumber,
     channelnext: ChannelNumber,
 ) -> bool
-    requires { ⌜ (low .0 ≤ pastHighest) × (channellow .0 ≤ pastHighest) ⌝ }
-    ensures { λ r. ⌜ r ≡ cond (leb (low .0 + 32) (next .0)) true (leb (channellow .0 + 32) (channelnext .0)) ⌝ }
+    requires { ⌜ (low .0 ≤ next .0) × (channellow .0 ≤ pastHighest) ⌝ }
+    ensures { λ r. ⌜ r ≡ cond (leb (limitOf 32 logwindow) (next .0 - low .0)) true (leb (channellow .0 + 32) (channelnext .0)) ⌝ }
 {
-    if low.0 + DataNumber::WINDOW <= next.0 {
+    if sender::at_limit(low, next, logwindow) {
         return true;
     }
     channellow.0 + ChannelNumber::WINDOW <= channelnext.0
@@ -76,7 +77,7 @@ pub fn send(s: Sender, store: &mut [u8], tick: u32, block: &[u8], out: &mut [u8]
             sender: s,
         };
     }
-    if full(low, next, channellow, channel) {
+    if full(low, next, s.logwindow, channellow, channel) {
         return Outcome {
             written: Written::Refused(9),
             sender: s,

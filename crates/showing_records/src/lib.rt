@@ -103,6 +103,7 @@ pub fn sender(s: Sender) {
     showing::some(b" firstdata=", s.firstdata.0);
     showing::some(b" firstchannel=", s.firstchannel.0);
     showing::number(b" timeout=", s.timeout as u64);
+    showing::number(b" logwindow=", s.logwindow as u64);
     showing::number(b" low=", s.low.0);
     showing::number(b" next=", s.next.0);
     showing::number(b" channellow=", s.channellow.0);

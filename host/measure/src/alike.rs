@@ -10,6 +10,7 @@ pub fn sender(s: &Sender) -> ours::Sender {
         firstdata: s.first_data,
         firstchannel: s.first_channel,
         timeout: s.timeout,
+        logwindow: s.log_window,
         low: s.low,
         next: s.next,
         channellow: s.channel_low,

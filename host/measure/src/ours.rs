@@ -26,6 +26,7 @@ pub struct Sender {
     pub firstdata: u64,
     pub firstchannel: u64,
     pub timeout: u32,
+    pub logwindow: u8,
     pub low: u64,
     pub next: u64,
     pub channellow: u64,

@@ -42,7 +42,7 @@ fn try_receive<const CHECK: bool>(
     if let Reading::Packet(packet) = wire::read(d)? {
         let named = s.judge(d, &packet)?;
         let plan = r.judge(&packet)?;
-        s.mark_received(named);
+        s.accept(named, &packet);
         r.accept(plan, store, d);
     }
     Ok(())

@@ -3,6 +3,7 @@
 mod calls;
 
 use crate::numbers::{place, FIRST_MOST, PAST, WINDOW};
+use crate::wire;
 
 /// The longest block that is sent.
 pub const BLOCK_MOST: usize = 1_223;
@@ -45,12 +46,14 @@ pub struct BlockPlace {
     pub len: u16,
 }
 
-/// Data numbers run from `low` up to `next`, blocks from `channel_low` up to `channel_next`.
+/// Data numbers run from `low` up to `next`, blocks from `channel_low` up to `channel_next`. `log_window` is the peer's
+/// LogWindowSize, as its last accepted packet gave it.
 #[derive(Clone, Copy, PartialEq, Eq, Debug)]
 pub struct Sender {
     pub first_data: u64,
     pub first_channel: u64,
     pub timeout: u32,
+    pub log_window: u8,
     pub low: u64,
     pub next: u64,
     pub channel_low: u64,
@@ -67,6 +70,7 @@ impl Sender {
             first_data: data,
             first_channel: channel,
             timeout,
+            log_window: wire::LOG_WINDOW as u8,
             low: data,
             next: data,
             channel_low: channel,

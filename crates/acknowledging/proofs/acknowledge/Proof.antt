@@ -33,16 +33,16 @@ enum-known-p : tie.Need-enum-known-p
 enum-known-p c = search needs
 
 judge-requires : tie.Need-judge-requires
-judge-requires c κs = (fit (c .before .before .before .before), sym (c .before .before .before .read .ensures) ∙ c .before .p .given .1)
+judge-requires c κs = (fit (c .before .before .before .before .before), sym (c .before .before .before .before .read .ensures) ∙ c .before .before .p .given .1)
 
 returns-2 : tie.Need-returns-2
 returns-2 c =
-    let r = c .before .before .before .before .before .before in
-    ack-kept 32 _ _ _ _ (fit (r .before)) (sym (c .before .before .before .before .p .given .1) ∙ r .read .ensures)
-    (c .before .before .judge .ensures .0) (c .before .before .judge .ensures .1) (c .if2 .taken)
+    let r = c .before .before .before .before .before .before .before in
+    ack-kept 32 _ _ _ _ (fit (r .before)) (sym (c .before .before .before .before .before .p .given .1) ∙ r .read .ensures)
+    (c .before .before .judge .ensures .0) (c .if2 .taken)
 
 turn-requires : tie.Need-turn-requires
-turn-requires c κs = turnable 32 32 _ (omega arith) (omega arith) (fit (c .before .before .before .before .before .before .before .before))
+turn-requires c κs = turnable 32 32 _ (omega arith) (omega arith) (fit (c .before .before .before .before .before .before .before .before .before))
 
 returns-3 : tie.Need-returns-3
 returns-3 c = ack-refused 32 _ _ _ (fit (c .before .before .before .before)) (sym (c .before .n .given .1) ∙ c .before .before .before .read .ensures)
@@ -52,8 +52,8 @@ returns-4 c = ack-dummy 32 _ _ (fit (c .before .before .before)) (sym (c .enum-t
 
 returns-5 : tie.Need-returns-5
 returns-5 c =
-    let r = c .before .before .before .before .before .before .before .before in
-    ack-turned 32 _ _ _ _ _ (fit (r .before)) (sym (c .before .before .before .before .before .before .p .given .1) ∙ r .read .ensures)
+    let r = c .before .before .before .before .before .before .before .before .before in
+    ack-turned 32 _ _ _ _ _ (fit (r .before)) (sym (c .before .before .before .before .before .before .before .p .given .1) ∙ r .read .ensures)
     (c .before .before .before .before .judge .ensures .0) (c .before .before .before .before .judge .ensures .1) (c .before .before .if2 .left) (c .turn .ensures)
 
 pub acknowledge-spec : {M : Type 1} → statement M

@@ -32,6 +32,7 @@ returns c = let s = c .before .before .before .args .s in
       firstdata = s .firstdata;
       firstchannel = s .firstchannel;
       timeout = s .timeout;
+      logwindow = s .logwindow;
       low = s .low;
       next = record { 0 = s .next .0 + 1 };
       channellow = s .channellow;

@@ -43,15 +43,15 @@ short-here e = block-short 32 _ _ _ (omega arith) (sound-here (e .before .before
 
 -- past the first four tests only the room is left to judge
 abbrev found : tie.Else4 → tie.After-known-told
-found e = e .before .before .before .before .before .before .before
+found e = e .before .before .before .before .before .before
 
 ready-here : (e : tie.Else4) → Ready 32 (entry (from (found e))) (channel (found e))
 ready-here e =
     record {
       sound = sound-here (found e .before .before .before .before);
       waits = waits-here (found e);
-      fresh = e .before .before .before .if3 .left;
-      free = e .if4 .left;
+      fresh = e .before .before .if3 .left;
+      free = sym (e .before .at-limit .ensures) ∙ e .if4 .left;
     }
 
 returns : tie.Need-returns
@@ -92,16 +92,15 @@ returns-4 c =
     let l = resend-used 32 (entry b) (b .args .tick) (b .args .out .now) (channel e) (sound-here (e .before .before .before .before)) (waits-here e) (c .if3 .taken) in
     (l .written, (l .sender, l .bytes))
 
-add-if4 : tie.Need-add-if4
-add-if4 c =
-    let f = sound-bounds 32 _ _ (omega arith) (sound-here (c .before .before .before .before .before .before .before .before .before)) in
-    omega (arith, f .0 .next, f .0 .full)
+at-limit-requires : tie.Need-at-limit-requires
+at-limit-requires c κs =
+    sound-bounds 32 _ _ (omega arith) (sound-here (c .before .before .before .before .before .before .before .before)) .0 .next
 
 returns-5 : tie.Need-returns-5
 returns-5 c =
-    let e = c .before .before .before .before .before .before .before in
+    let e = c .before .before .before .before .before .before in
     let b = from e in
-    let l = resend-full 32 (entry b) (b .args .tick) (b .args .out .now) (channel e) (sound-here (e .before .before .before .before)) (waits-here e) (c .before .before .before .if3 .left) (c .if4 .taken) in
+    let l = resend-full 32 (entry b) (b .args .tick) (b .args .out .now) (channel e) _ (sound-here (e .before .before .before .before)) (waits-here e) (c .before .before .if3 .left) (c .before .at-limit .ensures) (c .if4 .taken) in
     (l .written, (l .sender, l .bytes))
 
 channel-place-requires : tie.Need-channel-place-requires
@@ -191,7 +190,7 @@ resend-spec =
     enum-told
     returns-3
     returns-4
-    add-if4
+    at-limit-requires
     returns-5
     channel-place-requires
     mul-b

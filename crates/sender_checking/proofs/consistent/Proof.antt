@@ -22,7 +22,7 @@ walk-numbers-requires : tie.Need-walk-numbers-requires
 walk-numbers-requires c κs = begun-ranges 32 (c .before .before .before .before .before .before .args .s) _ _ _ (c .before .before .before .before .before .range-fits .ensures) (c .before .before .before .before .range-fits2 .ensures) (c .before .before .before .timeout-fits .ensures) (c .before .before .if1 .left)
 
 returns-2 : tie.Need-returns-2
-returns-2 c = c .before .before .walk-numbers .ensures _ _ .stops (not-true _ (c .if2 .taken))
+returns-2 c = c .before .before .walk-numbers .ensures _ _ _ .stops (not-true _ (c .if2 .taken))
 
 numbers-wrong-requires : tie.Need-numbers-wrong-requires
 numbers-wrong-requires c κs = search needs
@@ -31,7 +31,7 @@ blocks-wrong-requires : tie.Need-blocks-wrong-requires
 blocks-wrong-requires c κs = search needs
 
 returns-3 : tie.Need-returns-3
-returns-3 c = judged 32 _ _ _ _ _ (begun 32 _ _ _ _ (c .before .before .before .before .before .before .before .before .before .before .before .range-fits .ensures) (c .before .before .before .before .before .before .before .before .before .before .range-fits2 .ensures) (c .before .before .before .before .before .before .before .before .before .timeout-fits .ensures) (c .before .before .before .before .before .before .before .before .if1 .left)) (c .before .before .before .before .before .walk-numbers .ensures _ _) (not-false _ (c .before .before .before .if2 .left)) (c .before .numbers-wrong .ensures) (c .blocks-wrong .ensures)
+returns-3 c = judged 32 _ _ _ _ _ (begun 32 _ _ _ _ (c .before .before .before .before .before .before .before .before .before .before .before .range-fits .ensures) (c .before .before .before .before .before .before .before .before .before .before .range-fits2 .ensures) (c .before .before .before .before .before .before .before .before .before .timeout-fits .ensures) (c .before .before .before .before .before .before .before .before .if1 .left)) (c .before .before .before .before .before .walk-numbers .ensures _ _ _) (not-false _ (c .before .before .before .if2 .left)) (c .before .numbers-wrong .ensures) (c .blocks-wrong .ensures)
 
 pub consistent-spec : {M : Type 1} → statement M
 consistent-spec =

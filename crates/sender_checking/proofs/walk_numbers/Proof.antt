@@ -9,7 +9,7 @@ use Rattle.sender_checking.proofs.walk_numbers.Tie as tie
 
 abbrev Inv-loop : tie.InvT-loop
 Inv-loop low next firstchannel channellow channelnext numbers blocks span marks₀ fits₀ i₀ marks fits i =
-    (firstdata timeout : ℕ) → Going 32 (senderOf firstdata timeout numbers blocks low next (firstchannel .0) (channellow .0) (channelnext .0)) fits marks i
+    (firstdata timeout logwindow : ℕ) → Going 32 (senderOf firstdata timeout logwindow numbers blocks low next (firstchannel .0) (channellow .0) (channelnext .0)) fits marks i
 
 abbrev μ-loop : tie.MeasureT-loop
 μ-loop low next firstchannel channellow channelnext numbers blocks span marks₀ fits₀ i₀ marks fits i = span - i
@@ -18,7 +18,7 @@ sub-span : tie.Need-sub-span Inv-loop μ-loop
 sub-span c = c .pre .forth
 
 loop-holds : tie.Need-loop-holds Inv-loop μ-loop
-loop-holds c = λ f t. walk-none 32 _
+loop-holds c = λ f t k. walk-none 32 _
 
 add-t23 : tie.Need-add-t23 Inv-loop μ-loop
 add-t23 c = let r = c .before .before .pre in let l = walk-within (c .before .loop .fits) (c .before .loop .i) (c .before .before .args .next - c .before .before .args .low) (c .loop-test .taken) in omega (arith, r .forth, r .nextFits)
@@ -57,10 +57,10 @@ loop-less : tie.Need-loop-less Inv-loop μ-loop
 loop-less c = let l = walk-within (c .before .before .before .before .before .before .before .before .loop .fits) (c .before .before .before .before .before .before .before .before .loop .i) (c .before .before .before .before .before .before .before .before .before .args .next - c .before .before .before .before .before .before .before .before .before .args .low) (c .before .before .before .before .before .before .before .loop-test .taken) in omega arith
 
 loop-again : tie.Need-loop-again Inv-loop μ-loop
-loop-again c = λ f t. walk-more 32 _ _ _ _ _ _ _ (c .before .before .before .before .before .before .before .before .before .pre) (c .before .before .before .before .before .before .before .loop-test .taken) (c .before .before .before .before .before .before .data-place .ensures .0) (c .before .before .before .before .channel-place .ensures .0) (c .used-fits .ensures) (c .before .before .before .before .before .before .before .before .loop .inv f t)
+loop-again c = λ f t k. walk-more 32 _ _ _ _ _ _ _ (c .before .before .before .before .before .before .before .before .before .pre) (c .before .before .before .before .before .before .before .loop-test .taken) (c .before .before .before .before .before .before .data-place .ensures .0) (c .before .before .before .before .channel-place .ensures .0) (c .used-fits .ensures) (c .before .before .before .before .before .before .before .before .loop .inv f t k)
 
 returns : tie.Need-returns Inv-loop μ-loop
-returns c = λ f t. walk-end 32 _ _ _ _ (c .before .loop .inv f t) (c .loop-test .left) (search needs) (search needs)
+returns c = λ f t k. walk-end 32 _ _ _ _ (c .before .loop .inv f t k) (c .loop-test .left) (search needs) (search needs)
 
 pub walk-numbers-spec : {M : Type 1} → statement M
 walk-numbers-spec =

@@ -71,7 +71,7 @@ returns-4 c =
 full-requires : tie.Need-full-requires
 full-requires c κs =
     let f = sound-bounds 32 _ _ (omega arith) (sound-here (c .before .before .before .before .before .before .before)) in
-    (omega (arith, f .0 .next, f .0 .full), omega (arith, f .0 .channelnext, f .0 .channelfull))
+    (f .0 .next, omega (arith, f .0 .channelnext, f .0 .channelfull))
 
 returns-5 : tie.Need-returns-5
 returns-5 c =

@@ -22,9 +22,15 @@ impl Sender {
         }
         if let Reading::Packet(packet) = wire::read(d)? {
             let named = self.judge(d, &packet)?;
-            self.mark_received(named);
+            self.accept(named, &packet);
         }
         Ok(())
+    }
+
+    /// Takes an accepted packet: the numbers that it names, and its LogWindowSize.
+    pub(crate) fn accept(&mut self, named: u32, packet: &Packet) {
+        self.log_window = packet.log_window;
+        self.mark_received(named);
     }
 
     /// Gives the set of places in range that the packet names, or refuses the packet.
@@ -54,7 +60,7 @@ impl Sender {
     }
 
     /// Turns the named pending numbers into received ones and their blocks into acknowledged ones.
-    pub(crate) fn mark_received(&mut self, named: u32) {
+    fn mark_received(&mut self, named: u32) {
         if named == 0 {
             return;
         }
@@ -84,7 +90,7 @@ impl Sender {
         if self.next == PAST || self.channel_next == PAST {
             return Err(refusal::USED_UP);
         }
-        if self.next - self.low == WINDOW || self.channel_next - self.channel_low == WINDOW {
+        if self.is_at_limit() || self.channel_next - self.channel_low == WINDOW {
             return Err(refusal::WINDOW_FULL);
         }
         let channel = self.channel_next;
@@ -112,13 +118,19 @@ impl Sender {
         if self.next == PAST {
             return Err(refusal::USED_UP);
         }
-        if self.next - self.low == WINDOW {
+        if self.is_at_limit() {
             return Err(refusal::WINDOW_FULL);
         }
         let block = store::block(store, channel, self.blocks[place(channel)].len);
         let len = self.write_data(channel, block, out)?;
         self.launch(channel, tick);
         Ok(len)
+    }
+
+    /// Says whether as many data numbers are out as the peer takes.
+    fn is_at_limit(&self) -> bool {
+        let takes = 1u64.checked_shl(u32::from(self.log_window)).unwrap_or(WINDOW);
+        self.next - self.low >= takes.min(WINDOW)
     }
 
     /// Writes a data packet under the next data number; only 14 can refuse it here.

@@ -209,6 +209,53 @@ fn full_windows() {
     assert!(node.send(0, b"").is_ok());
 }
 
+/// A packet without a flag that gives this LogWindowSize.
+fn window(log_window: u32) -> Vec<u8> {
+    written(&Values { log_window, ..Values::default() }, b"", b"", b"")
+}
+
+#[test]
+fn the_window_of_the_peer() {
+    for (log_window, takes) in [(0, 1), (3, 8), (4, 16), (5, 32), (15, 32)] {
+        let mut node = Node::open(0, 0, 300);
+        assert_eq!(node.receive(&window(log_window)), 0);
+        for _ in 0..takes {
+            assert!(node.send(0, b"").is_ok());
+        }
+        assert_eq!(node.send(0, b""), Err(9));
+    }
+}
+
+#[test]
+fn a_window_that_shrinks() {
+    let mut node = Node::open(0, 0, 300);
+    for tick in 0..20 {
+        node.send(tick, b"").unwrap();
+    }
+    assert_eq!(node.receive(&window(3)), 0);
+    assert_eq!(node.send(0, b""), Err(9));
+    assert_eq!((node.receive(&vector(0, &[0x80 | 0x40 | 12])), node.s.low), (0, 12));
+    assert_eq!(node.s.log_window, 5, "the vector gives 5");
+    assert_eq!(node.receive(&window(3)), 0);
+    assert_eq!(node.send(0, b""), Err(9), "eight are out");
+    assert_eq!(node.sweep(312), Ok(1));
+    assert!(node.resend(400).is_ok(), "seven were out");
+    assert_eq!(node.sweep(314), Ok(2));
+    assert!(node.resend(400).is_ok() && node.resend(400).is_ok());
+    assert_eq!((node.sweep(700), node.s.next - node.s.low), (Ok(8), 0));
+}
+
+#[test]
+fn what_is_refused_gives_no_window() {
+    let mut node = Node::open(0, 0, 300);
+    let never_sent = Values { flags: ACK, ack_number: 7, log_window: 1, ..Values::default() };
+    assert_eq!(node.receive(&written(&never_sent, b"", b"", b"")), 8);
+    let far = Values { flags: DATA, number: 32, log_window: 1, ..Values::default() };
+    assert_eq!(node.receive(&written(&far, b"", b"", b"")), 7);
+    let dummy = [0, 0, 0x10, 0, 0, 0, 0, 0x10];
+    assert_eq!((node.receive(&dummy), node.s.log_window), (0, 5));
+}
+
 #[test]
 fn losses_by_numbers_received_above() {
     let mut node = Node::open(0, 0, 300);

@@ -103,10 +103,15 @@ fn written(values: &Values, additions: &[u8], coded: &[u8], block: &[u8]) -> Vec
     out
 }
 
+/// No values but LogWindowSize 5.
+fn plain_values() -> Values {
+    Values { log_window: wire::LOG_WINDOW, ..Values::default() }
+}
+
 /// Writes a data packet, from full numbers, with or without AckOfAcks.
 fn data(aoa: Option<u64>, number: u64, channel: u64, block: &[u8]) -> Vec<u8> {
     let mut values =
-        Values { flags: DATA, number: low(number), channel: low(channel), ..Values::default() };
+        Values { flags: DATA, number: low(number), channel: low(channel), ..plain_values() };
     if let Some(number) = aoa {
         (values.flags, values.aoa) = (DATA | AOA, low(number));
     }
@@ -114,13 +119,13 @@ fn data(aoa: Option<u64>, number: u64, channel: u64, block: &[u8]) -> Vec<u8> {
 }
 
 fn ack(number: u64) -> Vec<u8> {
-    let values = Values { flags: ACK, ack_number: low(number), ..Values::default() };
+    let values = Values { flags: ACK, ack_number: low(number), ..plain_values() };
     written(&values, b"", b"", b"")
 }
 
 fn vector(base: u64, coded: &[u8]) -> Vec<u8> {
     let (vector_base, vector_size) = (low(base), coded.len() as u32);
-    let values = Values { flags: ACKVEC, vector_base, vector_size, ..Values::default() };
+    let values = Values { flags: ACKVEC, vector_base, vector_size, ..plain_values() };
     written(&values, b"", coded, b"")
 }
 
