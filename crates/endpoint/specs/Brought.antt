@@ -11,7 +11,7 @@ use Rattle.receiver.specs.History.{Event, arrives, takes, runOf, datagramsOf}
 use Rattle.receiver.specs.Set.{Set, From}
 use Rattle.receiver.specs.Order.Moments.{Good, good-outset, answer-zero}
 use Rattle.receiver.specs.Order.Runs.{run-good}
-use Rattle.sender.specs.Remembering.{isPacket, taken}
+use Rattle.sender.specs.Remembering.{isPacket, isHeard}
 use Rattle.endpoint.specs.History.{broughtIn}
 
 -- is there a datagram?
@@ -29,8 +29,8 @@ module _ (w cap : ℕ) (o : State) (ds : List (List ℕ)) (set : Set w cap o ds)
   brought-from [] from g = refl
   brought-from (arrives d ∷ es) from {s = s} g =
       let i : In d ds = from d (List·Memᴰ·head refl) in
-      or-left (taken (receiveAnswer w cap s d) d) _
-      (ap (λ (n : ℕ). taken n d) (answer-zero w cap o ds set g d i) ∙ ap isPacket (set .readable d i .reads))
+      or-left (isHeard (receiveAnswer w cap s d) d) _
+      (ap (λ (n : ℕ). isHeard n d) (answer-zero w cap o ds set g d i) ∙ ap isPacket (set .readable d i .reads))
   brought-from (takes room ∷ es) from g = brought-from es from (run-good w cap o ds set (takes room ∷ []) (λ d i. clash false (any-in d [] i) refl) g)
 
   pub brought-all : (es : List Event) → From ds es → broughtIn w cap o es ≡ isAny (datagramsOf es)

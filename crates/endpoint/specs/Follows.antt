@@ -14,8 +14,7 @@ use Rattle.sender.specs.declared.Sender.{Sender}
 use Rattle.sender.specs.Consistent as senderTests
 use Rattle.sender.specs.Record.{remembering}
 use Rattle.sender.specs.Acknowledge.{acknowledgeAnswer, acknowledgeOf}
-use Rattle.sender.specs.Remembering.{heardOf, Sized, heard-sized, consistent-remembering, acknowledge-remembers}
-use Rattle.sender.specs.Remembering as remembers
+use Rattle.sender.specs.Remembering.{heardOf, isHeard, Sized, heard-sized, consistent-remembering, acknowledge-remembers}
 use Rattle.sender.specs.Run.{run, anyOf, acceptedIn, accepted-alike, or-assoc, later-or}
 use Rattle.sender.specs.AnyOrder.{answered-alike}
 use Rattle.sender.specs.StaysConsistent.{acknowledge-keeps}
@@ -66,7 +65,7 @@ module _ (w cap : ℕ) (sent : List ℕ) (s : Sender) (h : senderTests.consisten
       (λ x i. sized x (List·Memᴰ·tail i))
       ∙ ap (λ (j : ℕ). cond (broughtIn w cap (stepOf w cap r (arrives d)) es) size j)
       (heard-sized size d (sized d (List·Memᴰ·head refl)) (receiver.receiveAnswer w cap r d) k)
-      ∙ later-or (broughtIn w cap (stepOf w cap r (arrives d)) es) (remembers.taken (receiver.receiveAnswer w cap r d) d) size k
+      ∙ later-or (broughtIn w cap (stepOf w cap r (arrives d)) es) (isHeard (receiver.receiveAnswer w cap r d) d) size k
   after-field size k r (takes room ∷ es) only sized = after-field size k (stepOf w cap r (takes room)) es only sized
 
   pub handed-is : (k : ℕ) (r : receiving.State) (es : List Event) → Plain (datagramsOf es) → handed w cap (both sent (remembering k s) r) es ≡ handedOf w cap r es
@@ -137,7 +136,7 @@ module _ (w cap : ℕ) (lw : 0 < w) (uw : w ≤ cap) (sent : List ℕ) where
   unfolding callsOf callOf acceptedIn anyOf broughtIn datagramsOf run
   between-field nothing size k s r p q x y = refl
   between-field (tells {cs} {ds} {es} d o b) size k s r p q x y =
-      let a : Bool = remembers.taken (acknowledgeAnswer w cap s d) d in
+      let a : Bool = isHeard (acknowledgeAnswer w cap s d) d in
       ap (λ (z : Endpoint). callsOf w cap z cs .halves .sender .logwindow) (told k s r d o q)
       ∙ between-field b size (heardOf (acknowledgeAnswer w cap s d) d k) (acknowledgeOf w cap s d) r (acknowledge-keeps w cap lw uw s d p) q
       (λ z i. x z (List·Memᴰ·tail i)) y
@@ -148,7 +147,7 @@ module _ (w cap : ℕ) (lw : 0 < w) (uw : w ≤ cap) (sent : List ℕ) where
       ∙ later-or (acceptedIn w cap s ds || broughtIn w cap r es) a size k
       ∙ ap (λ (z : Bool). cond z size k) (sym (or-assoc a (acceptedIn w cap s ds) (broughtIn w cap r es)))
   between-field (brings {cs} {ds} {es} d o b) size k s r p q x y =
-      let a : Bool = remembers.taken (receiver.receiveAnswer w cap r d) d in
+      let a : Bool = isHeard (receiver.receiveAnswer w cap r d) d in
       let c : Bool = broughtIn w cap (stepOf w cap r (arrives d)) es in
       ap (λ (z : Endpoint). callsOf w cap z cs .halves .sender .logwindow) (arrived w cap sent s p k r d o)
       ∙ between-field b size (heardOf (receiver.receiveAnswer w cap r d) d k) s (stepOf w cap r (arrives d)) p (receive-keeps w cap r d lw uw q)

@@ -12,7 +12,7 @@ use Rattle.wire.specs.Read.{readOf}
 use Rattle.receiver.specs.Record.{State}
 use Rattle.receiver.specs.Receive.{receiveAnswer}
 use Rattle.receiver.specs.History.{Event, arrives, takes, stepOf, givenOf}
-use Rattle.sender.specs.Remembering.{taken as isTaken}
+use Rattle.sender.specs.Remembering.{isHeard}
 use Rattle.endpoint.specs.Receive.{receiverOf}
 use Rattle.endpoint.specs.Calls.{Endpoint, Call, receives, acknowledges, sends, resends, sweeps, callOf, callsOf}
 use Rattle.endpoint.specs.Calls as calls
@@ -66,5 +66,5 @@ pub data Between : List Call → List (List ℕ) → List Event → Type 0 where
 -- is one of these events' datagrams a packet of type 0, and accepted by a receiver's half that stands so?
 unfoldable pub broughtIn : ℕ → ℕ → State → List Event → Bool
 broughtIn w cap r [] = false
-broughtIn w cap r (arrives d ∷ es) = isTaken (receiveAnswer w cap r d) d || broughtIn w cap (stepOf w cap r (arrives d)) es
+broughtIn w cap r (arrives d ∷ es) = isHeard (receiveAnswer w cap r d) d || broughtIn w cap (stepOf w cap r (arrives d)) es
 broughtIn w cap r (takes room ∷ es) = broughtIn w cap (stepOf w cap r (takes room)) es

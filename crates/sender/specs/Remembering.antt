@@ -29,15 +29,15 @@ isPacket (Refused n) = false
 isPacket Dummy = false
 isPacket (Read p) = true
 
-abbrev pub taken : ℕ → List ℕ → Bool
-taken answer d = cond (eqb answer 0) (isPacket (readOf d)) false
+abbrev pub isHeard : ℕ → List ℕ → Bool
+isHeard answer d = cond (eqb answer 0) (isPacket (readOf d)) false
 
 -- "all carrying the same LogWindowSize": this datagram carries k, if it is a packet of type 0
 abbrev pub Sized : ℕ → List ℕ → Type 0
 Sized k d = (p : Packet) → readOf d ≡ Read p → p .values .logwindow ≡ k
 
 -- So k is remembered exactly if it is accepted.
-pub heard-sized : (k : ℕ) (d : List ℕ) → Sized k d → (answer j : ℕ) → heardOf answer d j ≡ cond (taken answer d) k j
+pub heard-sized : (k : ℕ) (d : List ℕ) → Sized k d → (answer j : ℕ) → heardOf answer d j ≡ cond (isHeard answer d) k j
 unfolding sizeIn
 heard-sized k d sized answer j = go (readOf d) refl (eqb answer 0)
   where

@@ -1,4 +1,4 @@
--- A list of datagrams, taken in turn; and what their acknowledgements come to.
+-- A list of datagrams, isHeard in turn; and what their acknowledgements come to.
 use Prim.Native.Nat.{ℕ}
 use mathlib.Core.Bool.{Bool, true, false, cond, _||_}
 use mathlib.Core.List.{List, [], _∷_, List·Memᴰ·head, List·Memᴰ·tail}
@@ -17,7 +17,7 @@ use Rattle.sender.specs.Record.{isReceived, isAcknowledged, numberAt, bl
 use Rattle.sender.specs.Acknowledge.{acknowledging, toldNames, toldBy, acknowledgeAnswer, acknowledgeOf}
 use Rattle.sender.specs.Facts.{Facts, facts-consistent}
 use Rattle.sender.specs.TurnedWants.{acknowledging-ends}
-use Rattle.sender.specs.Remembering.{heardOf, isPacket, taken, Sized, heard-sized, acknowledge-remembers}
+use Rattle.sender.specs.Remembering.{heardOf, isPacket, isHeard, Sized, heard-sized, acknowledge-remembers}
 use Rattle.sender.specs.Turned.{Turned, eitherOf, or-none, both-hold, turned-alike}
 use Rattle.sender.specs.TurnedFacts.{turned-facts}
 use Rattle.sender.specs.Tells.{tells, acceptedNames, Alike, same-answer, same-names, datagram-turned}
@@ -58,7 +58,7 @@ unfoldable pub namedIn : ℕ → ℕ → Sender → List (List ℕ) → ℕ → 
 namedIn w cap s ds n = anyOf (λ d. acceptedNames w cap s d n) ds
 
 unfoldable pub acceptedIn : ℕ → ℕ → Sender → List (List ℕ) → Bool
-acceptedIn w cap s ds = anyOf (λ d. taken (acknowledgeAnswer w cap s d) d) ds
+acceptedIn w cap s ds = anyOf (λ d. isHeard (acknowledgeAnswer w cap s d) d) ds
 
 -- number n is received: its place says so, or low has passed it
 abbrev pub hasReceived : ℕ → Sender → ℕ → Bool
@@ -136,7 +136,7 @@ module _ (w cap : ℕ) (s : Sender) where
   pub accepted-at : (ds : List (List ℕ)) → acceptedIn w cap s ds ≡ true → Accepted w cap s ds
   unfolding acceptedIn
   accepted-at ds h =
-      let (d, i, t) = any-at (λ d. taken (acknowledgeAnswer w cap s d) d) ds h in
+      let (d, i, t) = any-at (λ d. isHeard (acknowledgeAnswer w cap s d) d) ds h in
       let (z, p) = both-hold (eqb (acknowledgeAnswer w cap s d) 0) (isPacket (readOf d)) t in
       go d i (readOf d) refl p (eqb-true _ _ z)
     where
@@ -148,19 +148,19 @@ module _ (w cap : ℕ) (s : Sender) where
   pub accepted-from : (ds : List (List ℕ)) → Accepted w cap s ds → acceptedIn w cap s ds ≡ true
   unfolding acceptedIn
   accepted-from ds k =
-      any-from (λ d. taken (acknowledgeAnswer w cap s d) d) (k .datagram)
-      (ap (λ (n : ℕ). taken n (k .datagram)) (k .accepted) ∙ ap isPacket (k .reads)) ds (k .listed)
+      any-from (λ d. isHeard (acknowledgeAnswer w cap s d) d) (k .datagram)
+      (ap (λ (n : ℕ). isHeard n (k .datagram)) (k .accepted) ∙ ap isPacket (k .reads)) ds (k .listed)
 
   pub same-accepted : (ds es : List (List ℕ)) → ((d : List ℕ) → In d ds → In d es) → ((d : List ℕ) → In d es → In d ds)
       → acceptedIn w cap s ds ≡ acceptedIn w cap s es
   unfolding acceptedIn
-  same-accepted = any-same (λ d. taken (acknowledgeAnswer w cap s d) d)
+  same-accepted = any-same (λ d. isHeard (acknowledgeAnswer w cap s d) d)
 
   -- A sender that answers alike accepts alike.
   pub accepted-alike : (q : Sender) → ((d : List ℕ) → acknowledgeAnswer w cap q d ≡ acknowledgeAnswer w cap s d) → (ds : List (List ℕ))
       → acceptedIn w cap q ds ≡ acceptedIn w cap s ds
   unfolding acceptedIn
-  accepted-alike q alike = any-alike _ _ (λ d. ap (λ (n : ℕ). taken n d) (alike d))
+  accepted-alike q alike = any-alike _ _ (λ d. ap (λ (n : ℕ). isHeard n d) (alike d))
 
 pub or-assoc : (a b c : Bool) → ((a || b) || c) ≡ (a || (b || c))
 or-assoc true b c = refl
@@ -203,4 +203,4 @@ module _ {w cap : ℕ} {s : Sender} (f : Facts w cap s) where
       (ap (λ (z : Sender). z .logwindow) (acknowledge-remembers (q .logwindow) w cap q d)
       ∙ ap (λ (n : ℕ). heardOf n d (q .logwindow)) (same-answer w cap q s (turned-like a) hq hs d)
       ∙ heard-sized k d (sized d (List·Memᴰ·head refl)) (acknowledgeAnswer w cap s d) (q .logwindow))
-      ∙ later-or (acceptedIn w cap s ds) (taken (acknowledgeAnswer w cap s d) d) k (q .logwindow)
+      ∙ later-or (acceptedIn w cap s ds) (isHeard (acknowledgeAnswer w cap s d) d) k (q .logwindow)
