@@ -1,7 +1,7 @@
 -- Demand 3, second half, for the endpoint: "with no send, resend or sweep between, any set of packets carrying an acknowledgement only, in any order, repeats included,
 -- is accepted or refused alike, and a pending packet becomes received exactly if an accepted one names it"; and, by document 02's W5, "all carrying the same
--- LogWindowSize", which is asked only of what is said of the field. The outset e is any endpoint whose two halves are as receiving asks. By the calls cs the acknowledgements ds are received, with the events es between, takes and datagrams with no acknowledgement (Between, in
--- History.antt).
+-- LogWindowSize", which is asked only of what is said of the field. The outset e is any endpoint whose two halves are as receiving asks. By the calls cs the
+-- acknowledgements ds are received, with the events es between, takes and datagrams with no acknowledgement (Between, in History.antt).
 use Prim.Native.Nat.{ℕ, _≤_, _<_}
 use mathlib.Core.Bool.{Bool, true, false, cond, _||_}
 use mathlib.Core.List.{List, [], _∷_, map, List·Memᴰ·head, List·Memᴰ·tail}
@@ -24,9 +24,9 @@ use Rattle.sender.specs.Run.{run, Accepted, acceptedIn, accepted-at, accepted-f
 use Rattle.sender.specs.AnyOrder as alone
 use Rattle.endpoint.specs.Receive.{Halves, receiverOf, soundOf, receiveAnswer}
 use Rattle.endpoint.specs.Calls.{Endpoint, Call, receives, callsOf}
-use Rattle.endpoint.specs.History.{OnlyAck, NoAck, Between, nothing, tells, after, handed, handedBy, broughtIn}
+use Rattle.endpoint.specs.History.{OnlyAck, NoAck, Between, nothing, tells, after, handed, handedBy, broughtIn, heardIn}
 use Rattle.endpoint.specs.Steps.{paired, sound-halves, ack-answer, no-ack-answer}
-use Rattle.endpoint.specs.Follows.{both, Comes, after-is, handed-is, between-plain, between-acks, between-is, between-field, between-hands, run-sound}
+use Rattle.endpoint.specs.Follows.{both, Comes, after-is, handed-is, between-plain, between-acks, between-is, between-field, between-stays, between-hands, run-sound}
 
 -- some datagram of the list reads, is accepted at the outset, and names number n
 pub record NamedBy (w cap : ℕ) (e : Halves) (ds : List (List ℕ)) (n : ℕ) : Type 0 where
@@ -115,11 +115,37 @@ module _ (w cap : ℕ) (lw : 0 < w) (uw : w ≤ cap) (e : Endpoint) (h : soundOf
     only : (d : List ℕ) → In d ds → OnlyAck d
     only = between-acks b
 
-    -- "all carrying the same LogWindowSize": it is remembered exactly if a packet is accepted, one of the acknowledgements or one of what stands between. Refused ones
-    -- change nothing.
+    -- The LogWindowSize. As one of a sender's half and as one of the endpoint, an acknowledgement is accepted alike.
+    accepted-there : Accepted w cap (e .halves .sender) ds → AcceptedBy w cap (e .halves) ds
+    accepted-there k =
+        record {
+          datagram = k .datagram;
+          listed = k .listed;
+          packet = k .packet;
+          reads = k .reads;
+          accepted = ack-answer w cap (e .halves) (k .datagram) (only (k .datagram) (k .listed)) receiver-sound ∙ k .accepted;
+        }
+
+    accepted-back : AcceptedBy w cap (e .halves) ds → Accepted w cap (e .halves .sender) ds
+    accepted-back k =
+        record {
+          datagram = k .datagram;
+          listed = k .listed;
+          packet = k .packet;
+          reads = k .reads;
+          accepted = sym (ack-answer w cap (e .halves) (k .datagram) (only (k .datagram) (k .listed)) receiver-sound) ∙ k .accepted;
+        }
+
+    -- Where no packet is accepted it stays, whatever is carried: "refused ones" change nothing.
+    pub window-stays : (AcceptedBy w cap (e .halves) ds → ⊥) → broughtIn w cap (receiverOf (e .halves)) es ≡ false
+        → callsOf w cap e cs .halves .sender .logwindow ≡ e .halves .sender .logwindow
+    window-stays none quiet =
+        between-stays w cap lw uw (e .sent) b (e .halves .sender .logwindow) (e .halves .sender) (receiverOf (e .halves)) sender-sound receiver-sound
+        (not-so (acceptedIn w cap (e .halves .sender) ds) (λ t. none (accepted-there (accepted-at w cap (e .halves .sender) ds t)))) quiet
+
+    -- "all carrying the same LogWindowSize": it is then remembered exactly if a packet is accepted, one of the acknowledgements or one of what stands between.
     module _ (size : ℕ) (acks : (d : List ℕ) → In d ds → Sized size d) (others : (d : List ℕ) → In d (datagramsOf es) → Sized size d) where
-      pub window-is : callsOf w cap e cs .halves .sender .logwindow
-          ≡ cond (acceptedIn w cap (e .halves .sender) ds || broughtIn w cap (receiverOf (e .halves)) es) size (e .halves .sender .logwindow)
+      pub window-is : callsOf w cap e cs .halves .sender .logwindow ≡ cond (heardIn w cap (e .halves) ds es) size (e .halves .sender .logwindow)
       window-is =
           between-field w cap lw uw (e .sent) b size (e .halves .sender .logwindow) (e .halves .sender) (receiverOf (e .halves)) sender-sound receiver-sound acks others
 
@@ -127,32 +153,7 @@ module _ (w cap : ℕ) (lw : 0 < w) (uw : w ≤ cap) (e : Endpoint) (h : soundOf
       window-moves k =
           window-is
           ∙ ap (λ (x : Bool). cond (x || broughtIn w cap (receiverOf (e .halves)) es) size (e .halves .sender .logwindow))
-          (accepted-from w cap (e .halves .sender) ds
-          (record {
-            datagram = k .datagram;
-            listed = k .listed;
-            packet = k .packet;
-            reads = k .reads;
-            accepted = sym (ack-answer w cap (e .halves) (k .datagram) (only (k .datagram) (k .listed)) receiver-sound) ∙ k .accepted;
-          }))
-
-      pub window-stays : (AcceptedBy w cap (e .halves) ds → ⊥) → broughtIn w cap (receiverOf (e .halves)) es ≡ false
-          → callsOf w cap e cs .halves .sender .logwindow ≡ e .halves .sender .logwindow
-      window-stays none quiet =
-          window-is
-          ∙ ap (λ (x : Bool). cond (acceptedIn w cap (e .halves .sender) ds || x) size (e .halves .sender .logwindow)) quiet
-          ∙ ap (λ (x : Bool). cond (x || false) size (e .halves .sender .logwindow))
-          (not-so (acceptedIn w cap (e .halves .sender) ds) (λ t. none (accepted-here (accepted-at w cap (e .halves .sender) ds t))))
-        where
-          accepted-here : Accepted w cap (e .halves .sender) ds → AcceptedBy w cap (e .halves) ds
-          accepted-here k =
-              record {
-                datagram = k .datagram;
-                listed = k .listed;
-                packet = k .packet;
-                reads = k .reads;
-                accepted = ack-answer w cap (e .halves) (k .datagram) (only (k .datagram) (k .listed)) receiver-sound ∙ k .accepted;
-              }
+          (accepted-from w cap (e .halves .sender) ds (accepted-back k))
 
     -- A number that is pending at the outset is received at the end exactly if some accepted datagram names it.
     module _ (n : ℕ) (l : e .halves .sender .low .0 ≤ n) (u : n < e .halves .sender .next .0) (p : isPending (numberAt w (e .halves .sender) n) ≡ true) where
@@ -190,41 +191,42 @@ module _ (w cap : ℕ) (lw : 0 < w) (uw : w ≤ cap) (e : Endpoint) (h : soundOf
           from-sender (alone.received-only-if w cap lw uw (e .halves .sender) sender-sound ds n l u p
           (sym (ap (λ (x : Endpoint). hasReceived w (x .halves .sender) n) same) ∙ t))
 
-  -- "in any order, repeats included": two histories whose acknowledgements have the same members, with whatever between, all carrying the same LogWindowSize, leave the
-  -- same sender's half, if a packet is accepted in both or in neither.
-  module _ (size : ℕ) (cs ks : List Call) (ds fs : List (List ℕ)) (acks : (d : List ℕ) → In d ds → Sized size d)
-      (there : (d : List ℕ) → In d ds → In d fs) (back : (d : List ℕ) → In d fs → In d ds) where
-    runs : run w cap (e .halves .sender) ds ≡ run w cap (e .halves .sender) fs
-    runs = alone.any-order w cap lw uw (e .halves .sender) sender-sound size ds fs acks there back
+  -- "in any order, repeats included": two histories whose acknowledgements have the same members leave the same sender's half but for the LogWindowSize, whatever stands
+  -- between and whatever is carried.
+  module _ (cs ks : List Call) (ds fs : List (List ℕ)) (there : (d : List ℕ) → In d ds → In d fs) (back : (d : List ℕ) → In d fs → In d ds) where
+    pub any-order-but : (k : ℕ) (es gs : List Event) → Between cs ds es → Between ks fs gs
+        → remembering k (callsOf w cap e cs .halves .sender) ≡ remembering k (callsOf w cap e ks .halves .sender)
+    any-order-but k es gs b c =
+        ap (λ (x : Endpoint). remembering k (x .halves .sender)) (same cs ds es b)
+        ∙ alone.any-order-but w cap lw uw (e .halves .sender) sender-sound k ds fs there back
+        ∙ sym (ap (λ (x : Endpoint). remembering k (x .halves .sender)) (same ks fs gs c))
 
-    -- is a packet accepted, one of the acknowledgements or one of what stands between?
-    abbrev pub heard : List Event → Bool
-    heard es = acceptedIn w cap (e .halves .sender) ds || broughtIn w cap (receiverOf (e .halves)) es
+    -- All carrying the same LogWindowSize, they leave the same sender's half, if a packet is accepted in both or in neither.
+    module _ (size : ℕ) (acks : (d : List ℕ) → In d ds → Sized size d) where
+      fields : (es gs : List Event) → Between cs ds es → Between ks fs gs → ((d : List ℕ) → In d (datagramsOf es) → Sized size d)
+          → ((d : List ℕ) → In d (datagramsOf gs) → Sized size d) → heardIn w cap (e .halves) ds es ≡ heardIn w cap (e .halves) ds gs
+          → callsOf w cap e cs .halves .sender .logwindow ≡ callsOf w cap e ks .halves .sender .logwindow
+      fields es gs b k x y h =
+          window-is cs ds es b size acks x
+          ∙ ap (λ (z : Bool). cond z size (e .halves .sender .logwindow)) h
+          ∙ ap (λ (z : Bool). cond (z || broughtIn w cap (receiverOf (e .halves)) gs) size (e .halves .sender .logwindow))
+          (same-accepted w cap (e .halves .sender) ds fs there back)
+          ∙ sym (window-is ks fs gs k size (λ d i. acks d (back d i)) y)
 
-    fields : (es gs : List Event) → Between cs ds es → Between ks fs gs → ((d : List ℕ) → In d (datagramsOf es) → Sized size d)
-        → ((d : List ℕ) → In d (datagramsOf gs) → Sized size d) → heard es ≡ heard gs
-        → callsOf w cap e cs .halves .sender .logwindow ≡ callsOf w cap e ks .halves .sender .logwindow
-    fields es gs b k x y h =
-        window-is cs ds es b size acks x
-        ∙ ap (λ (z : Bool). cond z size (e .halves .sender .logwindow)) h
-        ∙ ap (λ (z : Bool). cond (z || broughtIn w cap (receiverOf (e .halves)) gs) size (e .halves .sender .logwindow))
-        (same-accepted w cap (e .halves .sender) ds fs there back)
-        ∙ sym (window-is ks fs gs k size (λ d i. acks d (back d i)) y)
+      pub any-order : (es gs : List Event) → Between cs ds es → Between ks fs gs → ((d : List ℕ) → In d (datagramsOf es) → Sized size d)
+          → ((d : List ℕ) → In d (datagramsOf gs) → Sized size d) → heardIn w cap (e .halves) ds es ≡ heardIn w cap (e .halves) ds gs
+          → callsOf w cap e cs .halves .sender ≡ callsOf w cap e ks .halves .sender
+      any-order es gs b k x y h =
+          any-order-but (callsOf w cap e cs .halves .sender .logwindow) es gs b k
+          ∙ ap (λ (j : ℕ). remembering j (callsOf w cap e ks .halves .sender)) (fields es gs b k x y h)
 
-    pub any-order : (es gs : List Event) → Between cs ds es → Between ks fs gs → ((d : List ℕ) → In d (datagramsOf es) → Sized size d)
-        → ((d : List ℕ) → In d (datagramsOf gs) → Sized size d) → heard es ≡ heard gs
-        → callsOf w cap e cs .halves .sender ≡ callsOf w cap e ks .halves .sender
-    any-order es gs b k x y h =
-        ap (λ (z : Endpoint). z .halves .sender) (same cs ds es b)
-        ∙ ap (remembering (callsOf w cap e cs .halves .sender .logwindow)) runs
-        ∙ ap (λ (j : ℕ). remembering j (run w cap (e .halves .sender) fs)) (fields es gs b k x y h)
-        ∙ sym (ap (λ (z : Endpoint). z .halves .sender) (same ks fs gs k))
-
-    -- With the same events between, they leave the same endpoint.
-    pub same-end : (es : List Event) → Between cs ds es → Between ks fs es → ((d : List ℕ) → In d (datagramsOf es) → Sized size d)
-        → callsOf w cap e cs ≡ callsOf w cap e ks
-    same-end es b k x =
-        same cs ds es b
-        ∙ ap (λ (s : Sender). both (e .sent) (remembering (callsOf w cap e cs .halves .sender .logwindow) s) (runOf w cap (receiverOf (e .halves)) es)) runs
-        ∙ ap (λ (j : ℕ). both (e .sent) (remembering j (run w cap (e .halves .sender) fs)) (runOf w cap (receiverOf (e .halves)) es)) (fields es es b k x x refl)
-        ∙ sym (same ks fs es k)
+      -- With the same events between, they leave the same endpoint.
+      pub same-end : (es : List Event) → Between cs ds es → Between ks fs es → ((d : List ℕ) → In d (datagramsOf es) → Sized size d)
+          → callsOf w cap e cs ≡ callsOf w cap e ks
+      same-end es b k x =
+          same cs ds es b
+          ∙ ap (λ (s : Sender). both (e .sent) s (runOf w cap (receiverOf (e .halves)) es))
+          (sym (ap (λ (z : Endpoint). z .halves .sender) (same cs ds es b))
+          ∙ any-order es es b k x x refl
+          ∙ ap (λ (z : Endpoint). z .halves .sender) (same ks fs es k))
+          ∙ sym (same ks fs es k)

@@ -28,9 +28,9 @@ use Rattle.endpoint.specs.Follows.{Comes, Plain, after-is, after-field, 
 use Rattle.endpoint.specs.Brought.{isAny, any-in, brought-all}
 
 -- the sender's half once such datagrams have come: as at the outset, and if there was one their LogWindowSize is remembered
-abbrev pub heardFrom : ℕ → List (List ℕ) → Sender → Sender
-heardFrom size [] s = s
-heardFrom size (d ∷ ds) s = remembering size s
+abbrev pub rememberingFrom : ℕ → List (List ℕ) → Sender → Sender
+rememberingFrom size [] s = s
+rememberingFrom size (d ∷ ds) s = remembering size s
 
 module _ (w cap : ℕ) (e : Endpoint) (ds : List (List ℕ)) (set : Set w cap (receiverOf (e .halves)) ds)
     (s : senderTests.consistentOf w cap (e .halves .sender) ≡ true) (only : (d : List ℕ) → In d ds → OnlyData d) where
@@ -52,29 +52,31 @@ module _ (w cap : ℕ) (e : Endpoint) (ds : List (List ℕ)) (set : Set w cap (r
       field : ℕ
       field = after w cap e es .halves .sender .logwindow
 
-  -- At every moment the sender's store is as at the outset, and so is its half, but for the LogWindowSize: that of the set once a datagram has come.
+  -- At every moment the sender's half, but for the LogWindowSize, and its store are as at the outset, whatever sizes they carry.
+  pub sender-stays : (es : List Event) → From ds es
+      → (after w cap e es .halves .sender ≡ remembering (after w cap e es .halves .sender .logwindow) (e .halves .sender)) × (after w cap e es .sent ≡ e .sent)
+  sender-stays es from = (ap (λ (x : Endpoint). x .halves .sender) (same es from), ap (λ (x : Endpoint). x .sent) (same es from))
+
+  -- And the LogWindowSize, where all carry the same, is theirs once one has come.
   module _ (size : ℕ) (sized : (d : List ℕ) → In d ds → Sized size d) where
-    pub sender-hears : (es : List Event) → From ds es
-        → (after w cap e es .halves .sender ≡ heardFrom size (datagramsOf es) (e .halves .sender)) × (after w cap e es .sent ≡ e .sent)
-    sender-hears es from = (
-      ap (λ (x : Endpoint). x .halves .sender) (same es from)
-          ∙ ap (λ (k : ℕ). remembering k (e .halves .sender))
-          (after-field w cap (e .sent) (e .halves .sender) s size (e .halves .sender .logwindow) (receiverOf (e .halves)) es (plain es from) (λ d i. sized d (from d i))
-          ∙ ap (λ (b : Bool). cond b size (e .halves .sender .logwindow)) (brought-all w cap (receiverOf (e .halves)) ds set es from))
-          ∙ told (datagramsOf es),
-      ap (λ (x : Endpoint). x .sent) (same es from),
-    )
+    pub sender-hears : (es : List Event) → From ds es → after w cap e es .halves .sender ≡ rememberingFrom size (datagramsOf es) (e .halves .sender)
+    sender-hears es from =
+        sender-stays es from .0
+        ∙ ap (λ (k : ℕ). remembering k (e .halves .sender))
+        (after-field w cap (e .sent) (e .halves .sender) s size (e .halves .sender .logwindow) (receiverOf (e .halves)) es (plain es from) (λ d i. sized d (from d i))
+        ∙ ap (λ (b : Bool). cond b size (e .halves .sender .logwindow)) (brought-all w cap (receiverOf (e .halves)) ds set es from))
+        ∙ told (datagramsOf es)
       where
-        told : (fs : List (List ℕ)) → remembering (cond (isAny fs) size (e .halves .sender .logwindow)) (e .halves .sender) ≡ heardFrom size fs (e .halves .sender)
+        told : (fs : List (List ℕ)) → remembering (cond (isAny fs) size (e .halves .sender .logwindow)) (e .halves .sender) ≡ rememberingFrom size fs (e .halves .sender)
         told [] = refl
         told (f ∷ fs) = refl
 
     -- Once each has come it is determined by the outset and that size: as at the outset but for the field, if the set is not empty.
-    pub sender-is : (es : List Event) → From ds es → Covers ds es → after w cap e es .halves .sender ≡ heardFrom size ds (e .halves .sender)
-    sender-is es from covers = sender-hears es from .0 ∙ alike (datagramsOf es) ds from covers
+    pub sender-is : (es : List Event) → From ds es → Covers ds es → after w cap e es .halves .sender ≡ rememberingFrom size ds (e .halves .sender)
+    sender-is es from covers = sender-hears es from ∙ alike (datagramsOf es) ds from covers
       where
         alike : (fs gs : List (List ℕ)) → ((d : List ℕ) → In d fs → In d gs) → ((d : List ℕ) → In d gs → In d fs)
-            → heardFrom size fs (e .halves .sender) ≡ heardFrom size gs (e .halves .sender)
+            → rememberingFrom size fs (e .halves .sender) ≡ rememberingFrom size gs (e .halves .sender)
         alike [] [] there back = refl
         alike [] (g ∷ gs) there back = clash false (any-in g [] (back g (List·Memᴰ·head refl))) refl
         alike (f ∷ fs) [] there back = clash false (any-in f [] (there f (List·Memᴰ·head refl))) refl

@@ -13,7 +13,8 @@ use Rattle.receiver.specs.Record.{State}
 use Rattle.receiver.specs.Receive.{receiveAnswer}
 use Rattle.receiver.specs.History.{Event, arrives, takes, stepOf, givenOf}
 use Rattle.sender.specs.Remembering.{isHeard}
-use Rattle.endpoint.specs.Receive.{receiverOf}
+use Rattle.sender.specs.Run.{acceptedIn}
+use Rattle.endpoint.specs.Receive.{Halves, receiverOf}
 use Rattle.endpoint.specs.Calls.{Endpoint, Call, receives, acknowledges, sends, resends, sweeps, callOf, callsOf}
 use Rattle.endpoint.specs.Calls as calls
 
@@ -68,3 +69,7 @@ unfoldable pub broughtIn : ℕ → ℕ → State → List Event → Bool
 broughtIn w cap r [] = false
 broughtIn w cap r (arrives d ∷ es) = isHeard (receiveAnswer w cap r d) d || broughtIn w cap (stepOf w cap r (arrives d)) es
 broughtIn w cap r (takes room ∷ es) = broughtIn w cap (stepOf w cap r (takes room)) es
+
+-- is a packet accepted at an outset, one of these acknowledgements or one of these events' datagrams?
+abbrev pub heardIn : ℕ → ℕ → Halves → List (List ℕ) → List Event → Bool
+heardIn w cap e ds es = acceptedIn w cap (e .sender) ds || broughtIn w cap (receiverOf e) es

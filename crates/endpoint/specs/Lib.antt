@@ -1,5 +1,5 @@
 -- One endpoint (document 01): opening, receiving one datagram into both halves, and every call of either half; then its theorems, that a refusal changes nothing, that
--- every sequence of calls leaves it sound and that the order of arrival does not matter; last the laws that they stand on.
+-- every sequence of calls leaves it sound, that the peer's last LogWindowSize is remembered and that the order of arrival does not matter; last the laws that they stand on.
 
 pub mod Open
 pub mod Receive

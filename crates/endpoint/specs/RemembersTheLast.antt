@@ -14,23 +14,23 @@ use Rattle.sender.specs.declared.Sender.{Sender}
 use Rattle.sender.specs.Record.{State}
 use Rattle.sender.specs.Send.{newAnswer, newOf, lowestWaiting, resendAnswer, resentFor, resendOf}
 use Rattle.sender.specs.Sweep.{losing, losesAt, sweepAnswer, sweepOf}
-use Rattle.sender.specs.Remembering.{sizeIn, heardOf, either-way, turned-window}
+use Rattle.sender.specs.Remembering.{sizeIn, rememberedAfter, either-way, turned-window}
 use Rattle.endpoint.specs.Receive.{Halves, soundOf, packetAnswer, packetTold, packetOf, readAnswer, readInto, receiveAnswer, receiveOf}
 use Rattle.endpoint.specs.Calls.{Endpoint, Call, receives, takes, acknowledges, sends, resends, sweeps, sendingOf, callOf, callsOf}
 
 -- what is remembered after a call, where k was before
-abbrev pub heardBy : ℕ → ℕ → Endpoint → Call → ℕ → ℕ
-heardBy w cap e (receives d) k = heardOf (receiveAnswer w cap (e .halves) d) d k
-heardBy w cap e (takes room) k = k
-heardBy w cap e (acknowledges stamp gap room) k = k
-heardBy w cap e (sends tick block room) k = k
-heardBy w cap e (resends tick room) k = k
-heardBy w cap e (sweeps tick) k = k
+abbrev pub rememberedBy : ℕ → ℕ → Endpoint → Call → ℕ → ℕ
+rememberedBy w cap e (receives d) k = rememberedAfter (receiveAnswer w cap (e .halves) d) d k
+rememberedBy w cap e (takes room) k = k
+rememberedBy w cap e (acknowledges stamp gap room) k = k
+rememberedBy w cap e (sends tick block room) k = k
+rememberedBy w cap e (resends tick room) k = k
+rememberedBy w cap e (sweeps tick) k = k
 
 -- and after calls, each given what the one before left
-unfoldable pub lastHeard : ℕ → ℕ → Endpoint → List Call → ℕ → ℕ
-lastHeard w cap e [] k = k
-lastHeard w cap e (c ∷ cs) k = lastHeard w cap (callOf w cap e c) cs (heardBy w cap e c k)
+unfoldable pub lastRemembered : ℕ → ℕ → Endpoint → List Call → ℕ → ℕ
+lastRemembered w cap e [] k = k
+lastRemembered w cap e (c ∷ cs) k = lastRemembered w cap (callOf w cap e c) cs (rememberedBy w cap e c k)
 
 -- what is chosen of two records that remember the same remembers that
 either-same : (b : Bool) (x y : Sender) (k : ℕ) → x .logwindow ≡ k → y .logwindow ≡ k → cond b x y .logwindow ≡ k
@@ -53,7 +53,7 @@ module _ (w cap : ℕ) (e : Halves) (d : List ℕ) where
       go true = refl
       go false = refl
 
-  receive-hears : receiveOf w cap e d .sender .logwindow ≡ heardOf (receiveAnswer w cap e d) d (e .sender .logwindow)
+  receive-hears : receiveOf w cap e d .sender .logwindow ≡ rememberedAfter (receiveAnswer w cap e d) d (e .sender .logwindow)
   unfolding receiveOf receiveAnswer
   receive-hears = go (soundOf w cap e)
     where
@@ -62,7 +62,7 @@ module _ (w cap : ℕ) (e : Halves) (d : List ℕ) where
       go true = read-hears (readOf d)
       go false = refl
 
-call-hears : (w cap : ℕ) (e : Endpoint) (c : Call) → callOf w cap e c .halves .sender .logwindow ≡ heardBy w cap e c (e .halves .sender .logwindow)
+call-hears : (w cap : ℕ) (e : Endpoint) (c : Call) → callOf w cap e c .halves .sender .logwindow ≡ rememberedBy w cap e c (e .halves .sender .logwindow)
 unfolding callOf newOf resendOf sweepOf
 call-hears w cap e (receives d) = receive-hears w cap (e .halves) d
 call-hears w cap e (takes room) = refl
@@ -80,8 +80,8 @@ call-hears w cap e (sweeps tick) =
 
 -- THE THEOREM.
 pub remembers-the-last : (w cap : ℕ) (e : Endpoint) (cs : List Call)
-    → callsOf w cap e cs .halves .sender .logwindow ≡ lastHeard w cap e cs (e .halves .sender .logwindow)
-unfolding callsOf lastHeard
+    → callsOf w cap e cs .halves .sender .logwindow ≡ lastRemembered w cap e cs (e .halves .sender .logwindow)
+unfolding callsOf lastRemembered
 remembers-the-last w cap e [] = refl
 remembers-the-last w cap e (c ∷ cs) =
-    remembers-the-last w cap (callOf w cap e c) cs ∙ ap (lastHeard w cap (callOf w cap e c) cs) (call-hears w cap e c)
+    remembers-the-last w cap (callOf w cap e c) cs ∙ ap (lastRemembered w cap (callOf w cap e c) cs) (call-hears w cap e c)

@@ -30,7 +30,7 @@ use Rattle.sender.specs.Consistent as senderTests
 use Rattle.sender.specs.Record.{remembering}
 use Rattle.sender.specs.Acknowledge.{Told, silent, toldAnswer, toldOf, toldBy}
 use Rattle.sender.specs.Acknowledge as sender
-use Rattle.sender.specs.Remembering.{sizeIn, heardOf, either-way}
+use Rattle.sender.specs.Remembering.{sizeIn, rememberedAfter, either-way}
 use Rattle.endpoint.specs.History.{OnlyData, OnlyAck, NoAck}
 use Rattle.endpoint.specs.Receive.{Halves, receiverOf, soundOf, packetAnswer, packetTold, packetOf, readAnswer, readInto, receiveAnswer, receiveOf}
 
@@ -68,10 +68,10 @@ unfolding receiver.valuesAnswer receiver.valuesOf
 values-left w s d p = brought-left w s (arrivalFrom (s .receiver) (p .values) (bodyIn d p))
 
 -- a half that remembers k where it accepts
-cond-remembering : (b : Bool) (k : ℕ) (s : Sender) (x y : receiving.State)
+cond-accepted : (b : Bool) (k : ℕ) (s : Sender) (x y : receiving.State)
     → cond b (paired (remembering k s) x) (paired s y) ≡ paired (remembering (cond b k (s .logwindow)) s) (cond b x y)
-cond-remembering true k s x y = refl
-cond-remembering false k s x y = refl
+cond-accepted true k s x y = refl
+cond-accepted false k s x y = refl
 
 cond-sender : (b : Bool) (s t : Sender) (x : receiving.State) → cond b (paired s x) (paired t x) ≡ paired (cond b s t) x
 cond-sender true s t x = refl
@@ -97,7 +97,7 @@ module _ (w : ℕ) (e : Halves) (d : List ℕ) (p : Packet) (t : toldBy (e .send
   quiet-of =
       ap (λ (n : ℕ). cond (eqb n 0) (packetTold w e d p) e) quiet-answer
       ∙ ap (λ (x : Halves). cond (eqb (receiver.valuesAnswer w (e .receiver) d p) 0) x e) quiet-told
-      ∙ cond-remembering (eqb (receiver.valuesAnswer w (e .receiver) d p) 0) (p .values .logwindow) (e .sender) (receiver.valuesOf w (receiverOf e) d p) (receiverOf e)
+      ∙ cond-accepted (eqb (receiver.valuesAnswer w (e .receiver) d p) 0) (p .values .logwindow) (e .sender) (receiver.valuesOf w (receiverOf e) d p) (receiverOf e)
       ∙ ap (paired (remembering quietField (e .sender))) (values-left w (receiverOf e) d p)
 
 same : (b : Bool) → cond b true false ≡ b
@@ -169,7 +169,7 @@ module _ (w cap : ℕ) (e : Halves) (d : List ℕ) (only : NoAck d) (s : senderT
   no-ack-answer = rw sound-is (ap (λ (n : ℕ). cond (receiverTests.soundOf w cap (e .receiver) (length (e .store))) n 13) (read-quiet (readOf d) refl .0))
 
   pub no-ack-of : receiveOf w cap e d
-      ≡ paired (remembering (heardOf (receiver.receiveAnswer w cap (receiverOf e) d) d (e .sender .logwindow)) (e .sender)) (receiver.receiveOf w cap (receiverOf e) d)
+      ≡ paired (remembering (rememberedAfter (receiver.receiveAnswer w cap (receiverOf e) d) d (e .sender .logwindow)) (e .sender)) (receiver.receiveOf w cap (receiverOf e) d)
   unfolding receiveOf receiver.receiveOf receiver.receiveAnswer
   no-ack-of =
       rw sound-is

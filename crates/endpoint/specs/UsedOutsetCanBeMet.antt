@@ -46,7 +46,7 @@ use Rattle.sender.specs.Run.{anyOf, acceptedIn, accepted-from, namedIn}
 use Rattle.endpoint.specs.Receive.{receiverOf, receiveAnswer}
 use Rattle.endpoint.specs.Calls.{Call, receives, acknowledges, callsOf}
 use Rattle.endpoint.specs.Calls as calls
-use Rattle.endpoint.specs.History.{OnlyData, OnlyAck, Between, nothing, tells, brings, taken, written, callFor, after, handedBy}
+use Rattle.endpoint.specs.History.{OnlyData, OnlyAck, Between, nothing, tells, brings, taken, written, callFor, after, handedBy, broughtIn}
 use Rattle.endpoint.specs.Steps.{data-no-ack, ack-answer}
 use Rattle.endpoint.specs.AnyOrderOfData as ofData
 use Rattle.endpoint.specs.AnyOrderOfAcknowledgements as ofAcks
@@ -290,7 +290,7 @@ module _ (cs : List Call) (ds : List (List ℕ)) (es : List Event) (b : Between 
       → callsOf 32 32 used cs .halves .sender ≡ settledSender
   unfolding datagramsOf
   sender-settles sized there back =
-      ofAcks.any-order 32 32 (omega arith) (omega arith) used used-halves 5 cs (map receives usedAcks) ds usedAcks (λ d i. acks-sized d (there d i)) there back es [] b
+      ofAcks.any-order 32 32 (omega arith) (omega arith) used used-halves cs (map receives usedAcks) ds usedAcks there back 5 (λ d i. acks-sized d (there d i)) es [] b
       (ofAcks.in-turn usedAcks used-acks) sized none-between (or-left _ _ five-accepted ∙ sym (or-left _ _ five-accepted))
       ∙ ofAcks.end-is 32 32 (omega arith) (omega arith) used used-halves (map receives usedAcks) usedAcks [] (ofAcks.in-turn usedAcks used-acks)
       ∙ ap (λ (k : ℕ). remembering k (turnedOf 32 acknowledging (namedIn 32 32 usedSender usedAcks) usedSender))
@@ -317,6 +317,19 @@ module _ (cs : List Call) (ds : List (List ℕ)) (es : List Event) (b : Between 
             reads = all-read .1 .0 .0;
             accepted = answer fiveAck 0 (judged .0);
           })
+
+-- One that is refused alone moves nothing: the LogWindowSize stays the outset's.
+pub never-heard : callsOf 32 32 used (receives neverSent ∷ []) .halves .sender .logwindow ≡ 3
+unfolding broughtIn
+never-heard =
+    ofAcks.window-stays 32 32 (omega arith) (omega arith) used used-halves (receives neverSent ∷ []) (neverSent ∷ []) [] (tells neverSent never-ack nothing)
+    (λ k. refused (k .datagram) (k .listed) (k .accepted)) refl
+  where
+    eight : receiveAnswer 32 32 (used .halves) neverSent ≡ 8
+    eight = ack-answer 32 32 (used .halves) neverSent never-ack (used-sound .receiver) ∙ answer neverSent 8 (judged .2)
+
+    refused : (d : List ℕ) → In d (neverSent ∷ []) → receiveAnswer 32 32 (used .halves) d ≡ 0 → ⊥
+    refused d (List·Memᴰ·head q) a = let z : _≡_ {A = ℕ} 8 0 = sym eight ∙ sym (ap (receiveAnswer 32 32 (used .halves)) q) ∙ a in omega arith
 
 -- And where the data are the three of the set, whatever their order and repeats, with takes and acknowledgements between, the three blocks are handed over, each once, in
 -- order, and the receiver's half settles.

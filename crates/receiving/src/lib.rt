@@ -30,7 +30,7 @@ fn tells(flags: u16) -> bool
 }
 
 // Receives one datagram into both halves: both judge it before either changes. store is the receiver's, of 39,200 bytes. The sender's half remembers the
-// LogWindowSize of an accepted packet. Refused with 13, then as reading it, then with 8, then with 7.
+// LogWindowSize of an accepted packet of type 0. Refused with 13, then as reading it, then with 8, then with 7.
 pub fn receive(s: Sender, r: Receiver, store: &mut [u8], d: &[u8]) -> Received
     ensures answer { λ x. ⌜ x .answer ≡ receiveAnswer 32 32 (halves s r (now (store .entry))) (now (d .entry)) ⌝ }
     ensures sender { λ x. ⌜ x .sender ≡ receiveOf 32 32 (halves s r (now (store .entry))) (now (d .entry)) .sender ⌝ }

@@ -6,7 +6,6 @@ use mathlib.Core.List.{List}
 use mathlib.Core.Path.{_≡_, refl, sym, _∙_, ap}
 use native.Mathlib.Omega.{arith}
 use lib.ListN.{length, getD, take, drop, length-take}
-use lib.Dec.{leb}
 use borrow.Author.Tests.{lt-ltb, le-ltb, eq-eqb, ne-eqb}
 use Rattle.common.specs.declared.Written.{Written}
 use Rattle.common.specs.declared.Written.the-variants.{Refused, Wrote}
@@ -20,7 +19,7 @@ use Rattle.resending.specs.declared.Lowest.{Lowest}
 use Rattle.resending.specs.declared.Lowest.the-variants.{Nothing, Block}
 use Rattle.sender.specs.Record.{longestSent, State, isWaiting, noBlock, blockAt, contents}
 use Rattle.sender.specs.Consistent.{consistentOf, soundOf}
-use Rattle.sender.specs.Send.{dataBytes, limitOf, numbersFull, sentOf, waitingFrom, lowestWaiting, isNone, resendDatagram, resendAnswer, resendOf}
+use Rattle.sender.specs.Send.{dataBytes, numbersFull, sentOf, waitingFrom, lowestWaiting, isNone, resendDatagram, resendAnswer, resendOf}
 use Rattle.resending.specs.Lowest.{lowestOf}
 use Rattle.sender.specs.Facts.{consistent-facts}
 use Rattle.sender.specs.SendReady.{sound-facts, waiting-found}
@@ -128,13 +127,9 @@ module _ (w : ℕ) where
   unfolding resendAnswer
   resend-used s tick out c h e l = refuses s tick out 12 (first-here _ _ _ (lt-ltb _ _ l) ∙ first-skip _ _ _ (ap isNone e) ∙ first-skip _ _ _ (ap not h)) (λ z. omega arith)
 
-  -- are as many data numbers out as the peer's LogWindowSize allows?
-  abbrev atLimit : State → Bool
-  atLimit s = leb (limitOf w (s .sender .logwindow)) (s .sender .next .0 - s .sender .low .0)
-
   pub resend-full : (s : State) (tick : ℕ) (out : List ℕ) (c : ℕ) (f : Bool) → soundOf w w (s .sender) (length (s .store)) ≡ true → lowestWaiting w (s .sender) ≡ some c
-      → s .sender .next .0 ≤ highest → f ≡ atLimit s → f ≡ true → Resent s tick out (Refused 9) (s .sender) out
-  unfolding resendAnswer numbersFull
+      → s .sender .next .0 ≤ highest → f ≡ numbersFull w (s .sender) → f ≡ true → Resent s tick out (Refused 9) (s .sender) out
+  unfolding resendAnswer
   resend-full s tick out c f h e l g u =
       refuses s tick out 9 (first-here _ _ _ (sym g ∙ u) ∙ first-skip _ _ _ (le-ltb _ _ l) ∙ first-skip _ _ _ (ap isNone e) ∙ first-skip _ _ _ (ap not h)) (λ z. omega arith)
 
@@ -143,10 +138,10 @@ module _ (w : ℕ) where
     pub sound : soundOf w w (s .sender) (length (s .store)) ≡ true
     pub waits : lowestWaiting w (s .sender) ≡ some c
     pub fresh : s .sender .next .0 ≤ highest
-    pub free : atLimit s ≡ false
+    pub free : numbersFull w (s .sender) ≡ false
 
   ready-room : (s : State) (c room : ℕ) → Ready s c → roomAnswer (resendDatagram w s) room ≡ resendAnswer w w s room
-  unfolding resendAnswer numbersFull roomAnswer
+  unfolding resendAnswer roomAnswer
   ready-room s c room o =
       first-skip _ _ _ (o .free) ∙ first-skip _ _ _ (le-ltb _ _ (o .fresh)) ∙ first-skip _ _ _ (ap isNone (o .waits)) ∙ first-skip _ _ _ (ap not (o .sound))
 

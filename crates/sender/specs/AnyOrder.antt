@@ -45,15 +45,22 @@ module _ (w cap : ℕ) (lw : 0 < w) (uw : w ≤ cap) (s : Sender) (h : consisten
   pub answered-alike : (ds : List (List ℕ)) (d : List ℕ) → acknowledgeAnswer w cap (run w cap s ds) d ≡ acknowledgeAnswer w cap s d
   answered-alike ds d = same-answer w cap (run w cap s ds) s (turned-like facts (ran ds)) (end-consistent ds) h d
 
-  -- Lists with the same members, all carrying the same LogWindowSize, end in the same record.
+  -- Lists with the same members end in the same record but for the LogWindowSize,
+  pub any-order-but : (k : ℕ) (ds es : List (List ℕ)) → ((d : List ℕ) → In d ds → In d es) → ((d : List ℕ) → In d es → In d ds)
+      → remembering k (run w cap s ds) ≡ remembering k (run w cap s es)
+  any-order-but k ds es there back =
+      turned-only acknowledging-ends facts
+      (turned-remembering k (turned-alike acknowledging-ends facts (namedIn w cap s es) (λ n l u p. same-named w cap s n ds es there back) (ran ds)))
+      (turned-remembering k (ran es)) refl
+
+  -- and if all carry the same in the same record.
   pub any-order : (k : ℕ) (ds es : List (List ℕ)) → ((d : List ℕ) → In d ds → Sized k d) → ((d : List ℕ) → In d ds → In d es)
       → ((d : List ℕ) → In d es → In d ds) → run w cap s ds ≡ run w cap s es
   any-order k ds es sized there back =
-      turned-only acknowledging-ends facts
-      (turned-alike acknowledging-ends facts (namedIn w cap s es) (λ n l u p. same-named w cap s n ds es there back) (ran ds)) (ran es)
-      (window-is k ds sized
+      let same = window-is k ds sized
       ∙ ap (λ (b : Bool). cond b k (s .logwindow)) (same-accepted w cap s ds es there back)
-      ∙ sym (window-is k es (λ d i. sized d (back d i))))
+      ∙ sym (window-is k es (λ d i. sized d (back d i))) in
+      any-order-but (run w cap s ds .logwindow) ds es there back ∙ ap (λ (j : ℕ). remembering j (run w cap s es)) same
 
   -- A number that is pending at the outset is received at the end exactly if some accepted datagram names it.
   module _ (ds : List (List ℕ)) (n : ℕ) (l : s .low .0 ≤ n) (u : n < s .next .0) (p : isPending (numberAt w s n) ≡ true) where

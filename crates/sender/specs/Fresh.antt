@@ -1,10 +1,9 @@
 -- The record that opening makes: "Opening gives the first of each .. and a loss timeout"; nothing is sent, so both lows and both nexts stand at their firsts and
--- every place is zero. "Before any packet the limit is 32" (document 02, W5): the field is 5, as in the packets that we write.
+-- every place is zero. "Before any packet the limit is 32" (document 02, W5).
 use Prim.Native.Nat.{ℕ}
 use lib.ListN.{replicate}
-use Rattle.wire.specs.Layout.{logWindow}
 use Rattle.sender.specs.declared.Sender.{Sender}
-use Rattle.sender.specs.Record.{noNumber, noBlock}
+use Rattle.sender.specs.Record.{openingLogWindow, noNumber, noBlock}
 
 abbrev pub freshOf : ℕ → ℕ → ℕ → ℕ → Sender
 freshOf cap firstdata firstchannel timeout =
@@ -12,7 +11,7 @@ freshOf cap firstdata firstchannel timeout =
       firstdata = record { 0 = firstdata };
       firstchannel = record { 0 = firstchannel };
       timeout = timeout;
-      logwindow = logWindow;
+      logwindow = openingLogWindow;
       low = record { 0 = firstdata };
       next = record { 0 = firstdata };
       channellow = record { 0 = firstchannel };

@@ -17,6 +17,10 @@ shortestTimeout = 300
 abbrev pub longestTimeout : ℕ
 longestTimeout = 60000
 
+-- "Before any packet the limit is 32" (document 02, W5): 2 to this power
+abbrev pub openingLogWindow : ℕ
+openingLogWindow = 5
+
 -- "over 1,223 bytes given to the new-block call": the longest block that is sent
 abbrev pub longestSent : ℕ
 longestSent = 1223

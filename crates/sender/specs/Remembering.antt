@@ -1,9 +1,11 @@
--- The peer's LogWindowSize in the record (document 02, W5) changes nothing of what acknowledgements answer or turn: each law says that it passes a step by.
+-- What is remembered of the peer's LogWindowSize (document 02, W5) after a datagram; and that the field changes nothing of what acknowledgements answer or turn: each law
+-- says that it passes a step by.
 use Prim.Native.Nat.{ℕ, zero, suc, _+_}
 use mathlib.Core.Bool.{Bool, true, false, cond}
 use mathlib.Core.List.{List}
 use mathlib.Core.Path.{_≡_, refl, sym, _∙_, ap}
 use lib.Dec.{eqb}
+use Rattle.common.specs.Facts.{clash}
 use Rattle.wire.specs.declared.Packet.{Packet}
 use Rattle.wire.specs.declared.Reading.{Reading}
 use Rattle.wire.specs.declared.Reading.the-variants.{Refused, Dummy, Read}
@@ -14,21 +16,23 @@ use Rattle.sender.specs.Consistent.{numberOk, blockOk, carries, oneCarri
 use Rattle.sender.specs.Turn.{Turn, turnedAt, turnOne, turnUpTo, numbersMoved, blocksMoved, turnedOf}
 use Rattle.sender.specs.Acknowledge.{acknowledging, acknowledgedOf, Told, silent, upTo, listed, toldAnswer, toldNames, toldOf, toldBy, packetOf, readAnswer, readInto, acknowledgeAnswer, acknowledgeOf}
 
--- the LogWindowSize that is remembered after a datagram that was answered so, where k was before; a dummy has none, nor has what does not read
+-- the LogWindowSize of what was read, or k: a dummy has none, nor has what does not read
 unfoldable pub sizeIn : Reading → ℕ → ℕ
 sizeIn (Refused n) k = k
 sizeIn Dummy k = k
 sizeIn (Read p) k = p .values .logwindow
 
-abbrev pub heardOf : ℕ → List ℕ → ℕ → ℕ
-heardOf answer d k = cond (eqb answer 0) (sizeIn (readOf d) k) k
+-- what is remembered after a datagram that was answered so, where k was before
+abbrev pub rememberedAfter : ℕ → List ℕ → ℕ → ℕ
+rememberedAfter answer d k = cond (eqb answer 0) (sizeIn (readOf d) k) k
 
--- is a datagram that was answered so a packet of type 0, and accepted?
+-- was a packet of type 0 read?
 abbrev pub isPacket : Reading → Bool
 isPacket (Refused n) = false
 isPacket Dummy = false
 isPacket (Read p) = true
 
+-- is a datagram that was answered so a packet of type 0, and accepted?
 abbrev pub isHeard : ℕ → List ℕ → Bool
 isHeard answer d = cond (eqb answer 0) (isPacket (readOf d)) false
 
@@ -37,7 +41,7 @@ abbrev pub Sized : ℕ → List ℕ → Type 0
 Sized k d = (p : Packet) → readOf d ≡ Read p → p .values .logwindow ≡ k
 
 -- So k is remembered exactly if it is accepted.
-pub heard-sized : (k : ℕ) (d : List ℕ) → Sized k d → (answer j : ℕ) → heardOf answer d j ≡ cond (isHeard answer d) k j
+pub heard-sized : (k : ℕ) (d : List ℕ) → Sized k d → (answer j : ℕ) → rememberedAfter answer d j ≡ cond (isHeard answer d) k j
 unfolding sizeIn
 heard-sized k d sized answer j = go (readOf d) refl (eqb answer 0)
   where
@@ -46,6 +50,17 @@ heard-sized k d sized answer j = go (readOf d) refl (eqb answer 0)
     go (Refused n) e true = refl
     go Dummy e true = refl
     go (Read p) e true = sized p e
+
+-- Where it is not, nothing changes.
+pub unheard : (d : List ℕ) (answer k : ℕ) → isHeard answer d ≡ false → rememberedAfter answer d k ≡ k
+unfolding sizeIn
+unheard d answer k = go (readOf d) (eqb answer 0)
+  where
+    go : (x : Reading) (b : Bool) → cond b (isPacket x) false ≡ false → cond b (sizeIn x k) k ≡ k
+    go x false h = refl
+    go (Refused n) true h = refl
+    go Dummy true h = refl
+    go (Read p) true h = clash true refl h
 
 pub either-way : {A : Type 0} (b : Bool) (x : A) → cond b x x ≡ x
 either-way true x = refl
@@ -68,11 +83,11 @@ module _ (k : ℕ) where
       ∙ cond-remembering (cond (isPending (numberAt w (turnUpTo w t g s i) (s .low .0 + i))) (g (s .low .0 + i)) false)
       (turnedAt w t (turnUpTo w t g s i) (s .low .0 + i)) (turnUpTo w t g s i)
 
-  pub turned-remembers : (w : ℕ) (t : Turn) (g : ℕ → Bool) (s : Sender) → turnedOf w t g (remembering k s) ≡ remembering k (turnedOf w t g s)
+  turned-passes : (w : ℕ) (t : Turn) (g : ℕ → Bool) (s : Sender) → turnedOf w t g (remembering k s) ≡ remembering k (turnedOf w t g s)
   unfolding turnedOf numbersMoved blocksMoved
-  turned-remembers w t g s = ap (λ (q : Sender). blocksMoved w w (numbersMoved w w q)) (up-to-remembering w t g s w)
+  turned-passes w t g s = ap (λ (q : Sender). blocksMoved w w (numbersMoved w w q)) (up-to-remembering w t g s w)
 
-  pub answer-remembering : (s : Sender) (m : Told) → toldAnswer (remembering k s) m ≡ toldAnswer s m
+  answer-remembering : (s : Sender) (m : Told) → toldAnswer (remembering k s) m ≡ toldAnswer s m
   unfolding toldAnswer
   answer-remembering s silent = refl
   answer-remembering s (upTo a) = refl
@@ -82,15 +97,15 @@ module _ (k : ℕ) where
   unfolding toldOf toldAnswer acknowledgedOf
   told-remembers w s silent = refl
   told-remembers w s (upTo a) =
-      ap (λ (q : Sender). cond (eqb (toldAnswer s (upTo a)) 0) q (remembering k s)) (turned-remembers w acknowledging (toldNames (upTo a)) s)
+      ap (λ (q : Sender). cond (eqb (toldAnswer s (upTo a)) 0) q (remembering k s)) (turned-passes w acknowledging (toldNames (upTo a)) s)
       ∙ cond-remembering (eqb (toldAnswer s (upTo a)) 0) _ s
   told-remembers w s (listed a v) =
-      ap (λ (q : Sender). cond (eqb (toldAnswer s (listed a v)) 0) q (remembering k s)) (turned-remembers w acknowledging (toldNames (listed a v)) s)
+      ap (λ (q : Sender). cond (eqb (toldAnswer s (listed a v)) 0) q (remembering k s)) (turned-passes w acknowledging (toldNames (listed a v)) s)
       ∙ cond-remembering (eqb (toldAnswer s (listed a v)) 0) _ s
 
 -- Turning leaves the field.
 pub turned-window : (w : ℕ) (t : Turn) (g : ℕ → Bool) (s : Sender) → turnedOf w t g s .logwindow ≡ s .logwindow
-turned-window w t g s = ap (λ (q : Sender). q .logwindow) (turned-remembers (s .logwindow) w t g s)
+turned-window w t g s = ap (λ (q : Sender). q .logwindow) (turned-passes (s .logwindow) w t g s)
 
 -- One datagram into a sender that remembers k.
 module _ (k w cap : ℕ) (s : Sender) (d : List ℕ) where
@@ -120,7 +135,7 @@ module _ (k w cap : ℕ) (s : Sender) (d : List ℕ) where
       ∙ packet-remembers p (toldBy s d p) (eqb (toldAnswer s (toldBy s d p)) 0)
 
   -- THE LAW: the record is the one that it leaves of any such sender, and the field is its own if it is accepted.
-  pub acknowledge-remembers : acknowledgeOf w cap (remembering k s) d ≡ remembering (heardOf (acknowledgeAnswer w cap s d) d k) (acknowledgeOf w cap s d)
+  pub acknowledge-remembers : acknowledgeOf w cap (remembering k s) d ≡ remembering (rememberedAfter (acknowledgeAnswer w cap s d) d k) (acknowledgeOf w cap s d)
   unfolding acknowledgeOf acknowledgeAnswer
   acknowledge-remembers =
       rw (consistent-remembering k w cap s)

@@ -1,4 +1,4 @@
--- A list of datagrams, isHeard in turn; and what their acknowledgements come to.
+-- A list of datagrams, taken in turn; and what their acknowledgements come to.
 use Prim.Native.Nat.{ℕ}
 use mathlib.Core.Bool.{Bool, true, false, cond, _||_}
 use mathlib.Core.List.{List, [], _∷_, List·Memᴰ·head, List·Memᴰ·tail}
@@ -17,7 +17,7 @@ use Rattle.sender.specs.Record.{isReceived, isAcknowledged, numberAt, bl
 use Rattle.sender.specs.Acknowledge.{acknowledging, toldNames, toldBy, acknowledgeAnswer, acknowledgeOf}
 use Rattle.sender.specs.Facts.{Facts, facts-consistent}
 use Rattle.sender.specs.TurnedWants.{acknowledging-ends}
-use Rattle.sender.specs.Remembering.{heardOf, isPacket, isHeard, Sized, heard-sized, acknowledge-remembers}
+use Rattle.sender.specs.Remembering.{rememberedAfter, isPacket, isHeard, Sized, heard-sized, acknowledge-remembers}
 use Rattle.sender.specs.Turned.{Turned, eitherOf, or-none, both-hold, turned-alike}
 use Rattle.sender.specs.TurnedFacts.{turned-facts}
 use Rattle.sender.specs.Tells.{tells, acceptedNames, Alike, same-answer, same-names, datagram-turned}
@@ -201,6 +201,6 @@ module _ {w cap : ℕ} {s : Sender} (f : Facts w cap s) where
       run-window k ds (λ x i. sized x (List·Memᴰ·tail i)) (datagram-turned f a d)
       ∙ ap (λ (j : ℕ). cond (acceptedIn w cap s ds) k j)
       (ap (λ (z : Sender). z .logwindow) (acknowledge-remembers (q .logwindow) w cap q d)
-      ∙ ap (λ (n : ℕ). heardOf n d (q .logwindow)) (same-answer w cap q s (turned-like a) hq hs d)
+      ∙ ap (λ (n : ℕ). rememberedAfter n d (q .logwindow)) (same-answer w cap q s (turned-like a) hq hs d)
       ∙ heard-sized k d (sized d (List·Memᴰ·head refl)) (acknowledgeAnswer w cap s d) (q .logwindow))
       ∙ later-or (acceptedIn w cap s ds) (isHeard (acknowledgeAnswer w cap s d) d) k (q .logwindow)

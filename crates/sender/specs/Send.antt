@@ -57,11 +57,15 @@ sentOf w s tick c length channelnext =
 unfoldable pub limitOf : ℕ → ℕ → ℕ
 limitOf w logwindow = min w (2 ^ logwindow)
 
--- "refuses a new send or a resend with 9 if next minus low is at least" that limit; it is at most w, so a range of w numbers is among these (SendReady, full-is-full)
-unfoldable pub numbersFull : ℕ → Sender → Bool
-numbersFull w s = leb (limitOf w (s .logwindow)) (s .next .0 - s .low .0)
+-- "if next minus low is at least" that limit; it is at most w, so a range that already has w numbers is among these (full-is-full, in SendReady)
+unfoldable pub atLimitOf : ℕ → ℕ → ℕ → ℕ → Bool
+atLimitOf w low next logwindow = leb (limitOf w logwindow) (next - low)
 
--- "New block: pending and in flight. 9 exactly if either range already has 32. 12 exactly if next or channel next has passed the full range."
+abbrev pub numbersFull : ℕ → Sender → Bool
+numbersFull w s = atLimitOf w (s .low .0) (s .next .0) (s .logwindow)
+
+-- "New block: pending and in flight. .. 12 exactly if next or channel next has passed the full range." 9 exactly if the data numbers are full, or, as document 01 has it,
+-- the blocks' range "already has 32".
 -- "New block: 13, 10, 12, 9, 14"; 10 is "over 1,223 bytes given to the new-block call"
 abbrev pub newTests : ℕ → ℕ → State → List ℕ → ℕ → List Test
 newTests w cap s block room =

@@ -19,7 +19,7 @@ use Rattle.sender.specs.declared.BlockPlace.{BlockPlace}
 use Rattle.sender.specs.declared.Sender.{Sender}
 use Rattle.sender.specs.Record.{longestSent, State, isWaiting, isInFlight, inFlight, waiting, blockAt}
 use Rattle.sender.specs.Consistent.{consistentOf, soundOf}
-use Rattle.sender.specs.Send.{limitOf, numbersFull, newAnswer, waitingFrom, lowestWaiting, isNone, resendAnswer}
+use Rattle.sender.specs.Send.{limitOf, atLimitOf, numbersFull, newAnswer, waitingFrom, lowestWaiting, isNone, resendAnswer}
 use Rattle.sender.specs.Facts.{Facts}
 use Rattle.sender.specs.SentFacts.{Ready}
 
@@ -34,19 +34,19 @@ sound-facts w cap s size h =
     let k = every-all (consistentOf w cap s ∷ eqb size (storeSize w) ∷ []) h in (k .0, eqb-true _ _ (k .1 .0))
 
 -- The limit is at most the window,
-limit-least : (w k : ℕ) → limitOf w k ≤ w
+limit-most : (w k : ℕ) → limitOf w k ≤ w
 unfolding limitOf
-limit-least w k = min-le-left w (2 ^ k)
+limit-most w k = min-le-left w (2 ^ k)
 
 -- so where the data numbers are below it there is room in the window,
 room-under : (w : ℕ) (s : Sender) → numbersFull w s ≡ false → s .next .0 < s .low .0 + w
-unfolding numbersFull
-room-under w s h = omega (arith, leb-false (limitOf w (s .logwindow)) (s .next .0 - s .low .0) h, limit-least w (s .logwindow))
+unfolding atLimitOf
+room-under w s h = omega (arith, leb-false (limitOf w (s .logwindow)) (s .next .0 - s .low .0) h, limit-most w (s .logwindow))
 
 -- and a range that already has w numbers is full, as before document 02's W5, whatever the peer's LogWindowSize.
 pub full-is-full : (w : ℕ) (s : Sender) → s .low .0 + w ≤ s .next .0 → numbersFull w s ≡ true
-unfolding numbersFull
-full-is-full w s l = le-leb (limitOf w (s .logwindow)) (s .next .0 - s .low .0) (omega (arith, limit-least w (s .logwindow)))
+unfolding atLimitOf
+full-is-full w s l = le-leb (limitOf w (s .logwindow)) (s .next .0 - s .low .0) (omega (arith, limit-most w (s .logwindow)))
 
 -- what an accepted new block has
 pub record New (w cap : ℕ) (s : State) (block : List ℕ) : Type 0 where

@@ -1,5 +1,5 @@
--- What one datagram does to the sender's half: it turns the numbers that it names to received, if it is accepted, and its LogWindowSize is remembered. What it names and whether it is accepted depend on the
--- first number and on next alone, which no acknowledgement changes.
+-- What one datagram does to the sender's half: it turns the numbers that it names to received, if it is accepted, and its LogWindowSize is remembered. What it names and
+-- whether it is accepted depend on the first number and on next alone, which no acknowledgement changes.
 use Prim.Native.Nat.{ℕ}
 use mathlib.Core.Bool.{Bool, true, false, cond}
 use mathlib.Core.List.{List}

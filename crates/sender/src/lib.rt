@@ -3,10 +3,10 @@
 // A record goes in by value and comes back by value; sent blocks stand in a store that the host lends, 1,225 bytes to a place.
 ghost use mathlib.Core.Path.{_≡_};
 ghost use mathlib.Core.Bool.{true, cond};
-ghost use Prim.Native.Nat.{_-_, _≤_};
-ghost use lib.Dec.{eqb, leb};
+ghost use Prim.Native.Nat.{_≤_};
+ghost use lib.Dec.{eqb};
 ghost use Rattle.sender.specs.Fresh.{freshOf};
-ghost use Rattle.sender.specs.Send.{limitOf};
+ghost use Rattle.sender.specs.Send.{limitOf, atLimitOf};
 use numbers::ChannelNumber;
 use numbers::DataNumber;
 
@@ -17,6 +17,12 @@ pub const LONGEST_BLOCK: usize = 1223;
 pub const SHORTEST_TIMEOUT: u32 = 300;
 
 pub const LONGEST_TIMEOUT: u32 = 60000;
+
+// The LogWindowSize that a peer is taken to have before its first packet: it allows 32 data numbers.
+const OPENING_LOGWINDOW: u8 = 5;
+
+// 2 to this power is the window.
+const WINDOW_POWER: u8 = 5;
 
 // What a data number's place says of it.
 pub const UNUSED: u8 = 0;
@@ -65,7 +71,7 @@ pub struct Sender {
     pub firstchannel: ChannelNumber,
     // The loss timeout, in milliseconds.
     pub timeout: u32,
-    // The LogWindowSize of the last accepted packet of the peer's; 5 at first.
+    // The peer's LogWindowSize, as its last accepted packet of type 0 gave it.
     pub logwindow: u8,
     // The first pending data number, or next; numbers from here up to next are in range.
     pub low: DataNumber,
@@ -91,7 +97,7 @@ pub fn opened(firstdata: u16, firstchannel: u16, timeout: u32) -> Sender
         firstdata: DataNumber(data),
         firstchannel: ChannelNumber(channel),
         timeout,
-        logwindow: wire::LOGWINDOW,
+        logwindow: OPENING_LOGWINDOW,
         low: DataNumber(data),
         next: DataNumber(data),
         channellow: ChannelNumber(channel),
@@ -108,20 +114,20 @@ pub fn opened(firstdata: u16, firstchannel: u16, timeout: u32) -> Sender
     }
 }
 
-// How many data numbers may be out at a peer with this LogWindowSize: 2 to that power, and at most the window.
+// How many data numbers may be in range, from low up to next, at a peer with this LogWindowSize: 2 to that power, and at most the window.
 fn limit(logwindow: u8) -> u64
     ensures { λ r. ⌜ r ≡ limitOf 32 logwindow ⌝ }
 {
-    if wire::LOGWINDOW <= logwindow {
+    if WINDOW_POWER <= logwindow {
         return DataNumber::WINDOW;
     }
     1u64 << logwindow
 }
 
-// Are as many data numbers out, from low up to next, as the peer's LogWindowSize allows?
+// Are as many data numbers in range as the peer's LogWindowSize allows, or more?
 pub fn at_limit(low: DataNumber, next: DataNumber, logwindow: u8) -> bool
     requires { ⌜ low .0 ≤ next .0 ⌝ }
-    ensures { λ r. ⌜ r ≡ leb (limitOf 32 logwindow) (next .0 - low .0) ⌝ }
+    ensures { λ r. ⌜ r ≡ atLimitOf 32 (low .0) (next .0) logwindow ⌝ }
 {
     limit(logwindow) <= next.0 - low.0
 }

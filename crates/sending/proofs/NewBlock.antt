@@ -1,5 +1,5 @@
 -- New block: a law for each way out, over any window w.
-use Prim.Native.Nat.{ℕ, _+_, _-_, _*_, _%_, _≤_, _<_}
+use Prim.Native.Nat.{ℕ, _+_, _*_, _%_, _≤_, _<_}
 use mathlib.Core.Bool.{Bool, true, false, cond, not}
 use mathlib.Core.List.{List}
 use mathlib.Core.Path.{_≡_, refl, sym, _∙_, ap}
@@ -18,7 +18,7 @@ use Rattle.window.specs.Store.{placeSize, storeSize, size-wrong, size-right}
 use Rattle.sender.specs.declared.Sender.{Sender}
 use Rattle.sender.specs.Record.{longestSent, State}
 use Rattle.sender.specs.Consistent.{consistentOf, soundOf}
-use Rattle.sender.specs.Send.{limitOf, numbersFull, sentOf, newAnswer, newDatagram, newOf}
+use Rattle.sender.specs.Send.{numbersFull, sentOf, newAnswer, newDatagram, newOf}
 use Rattle.carrying.proofs.Told.{refused-is, wrote-is}
 
 abbrev usedUp : State → Bool
@@ -48,7 +48,7 @@ module _ (w : ℕ) where
       }
 
   abbrev isFull : State → Bool
-  isFull s = cond (leb (limitOf w (s .sender .logwindow)) (s .sender .next .0 - s .sender .low .0)) true (leb (s .sender .channellow .0 + w) (s .sender .channelnext .0))
+  isFull s = cond (numbersFull w (s .sender)) true (leb (s .sender .channellow .0 + w) (s .sender .channelnext .0))
 
   new-unsound : (s : State) (tick : ℕ) (block out : List ℕ) → soundOf w w (s .sender) (length (s .store)) ≡ false → Left s tick block out (Refused 13) (s .sender) (s .store) out
   unfolding newAnswer
@@ -74,7 +74,7 @@ module _ (w : ℕ) where
 
   pub new-full : (s : State) (tick : ℕ) (block out : List ℕ) (r f : Bool) → soundOf w w (s .sender) (length (s .store)) ≡ true → length block ≤ longestSent
       → r ≡ usedUp s → r ≡ false → f ≡ isFull s → f ≡ true → Left s tick block out (Refused 9) (s .sender) (s .store) out
-  unfolding newAnswer numbersFull
+  unfolding newAnswer
   new-full s tick block out r f h l e t g u =
       refuses s tick block out 9 (first-here _ _ _ (sym g ∙ u) ∙ first-skip _ _ _ (sym e ∙ t) ∙ first-skip _ _ _ (le-ltb _ _ l) ∙ first-skip _ _ _ (ap not h)) (λ z. omega arith)
 
@@ -86,7 +86,7 @@ module _ (w : ℕ) where
     pub free : isFull s ≡ false
 
   open-room : (s : State) (block : List ℕ) (room : ℕ) → Open s block → roomAnswer (newDatagram s block) room ≡ newAnswer w w s block room
-  unfolding newAnswer numbersFull roomAnswer newDatagram
+  unfolding newAnswer roomAnswer newDatagram
   open-room s block room o =
       first-skip _ _ _ (o .free) ∙ first-skip _ _ _ (o .fresh) ∙ first-skip _ _ _ (le-ltb _ _ (o .short)) ∙ first-skip _ _ _ (ap not (o .sound))
 

@@ -1,12 +1,12 @@
 // A new block: judged first, then written, and only then the record and the store change. `resending` sends one again.
 ghost use mathlib.Core.Path.{_≡_};
 ghost use mathlib.Core.Bool.{true, cond};
-ghost use Prim.Native.Nat.{_+_, _-_, _≤_};
+ghost use Prim.Native.Nat.{_+_, _≤_};
 ghost use lib.ListN.{length};
 ghost use lib.Dec.{leb, ltb};
 ghost use Rattle.common.specs.Answer.{writtenOf, leftOf};
 ghost use Rattle.numbers.specs.Full.{highest, pastHighest};
-ghost use Rattle.sender.specs.Send.{limitOf, newAnswer, newDatagram, newOf};
+ghost use Rattle.sender.specs.Send.{atLimitOf, newAnswer, newDatagram, newOf};
 ghost use Rattle.sender.specs.Record.{state};
 use carrying::Outcome;
 use common::Written;
@@ -33,7 +33,7 @@ fn full(
     channelnext: ChannelNumber,
 ) -> bool
     requires { ⌜ (low .0 ≤ next .0) × (channellow .0 ≤ pastHighest) ⌝ }
-    ensures { λ r. ⌜ r ≡ cond (leb (limitOf 32 logwindow) (next .0 - low .0)) true (leb (channellow .0 + 32) (channelnext .0)) ⌝ }
+    ensures { λ r. ⌜ r ≡ cond (atLimitOf 32 (low .0) (next .0) logwindow) true (leb (channellow .0 + 32) (channelnext .0)) ⌝ }
 {
     if sender::at_limit(low, next, logwindow) {
         return true;

@@ -33,7 +33,7 @@ pub fn sender(rule: &mut Rule, most: u64) -> Sender {
             let _ = s.sweep::<false>(tick);
         } else if now > 0 {
             let n = s.low + rule.below(now);
-            let values = Values { vector_size: 1, ..naming(ACKVEC, n) };
+            let values = Values { vector_size: 1, log_window: 5, ..naming(ACKVEC, n) };
             s.acknowledge::<false>(&written(&values, &[], &[1], &[]));
         }
         tick = tick.wrapping_add(rule.below(s.timeout as u64 / 8) as u32);
@@ -204,11 +204,11 @@ fn naming_some(rule: &mut Rule, s: &Sender) -> (Values, Vec<u8>, Vec<u8>) {
     (values, Vec::new(), coded)
 }
 
-/// An ACK for a number, or a vector from a number on.
+/// An ACK for a number, or a vector from a number on, with a LogWindowSize that goes by the number.
 fn naming(flags: u16, n: u64) -> Values {
     Values {
         flags,
-        log_window: 5,
+        log_window: (n % 16) as u32,
         ack_number: field(n),
         vector_base: field(n),
         ..Values::default()

@@ -161,7 +161,7 @@ impl Start {
         Start::new(made::sender(rule, most), made::receiver(rule, least))
     }
 
-    /// The same with one field changed: mostly no longer consistent. Any LogWindowSize is.
+    /// The same with one field changed: mostly no longer consistent. Another LogWindowSize leaves it consistent.
     pub fn spoilt(&self, rule: &mut Rule) -> Start {
         let Start { sender: mut s, receiver: mut r, .. } = *self;
         let at = rule.below(32) as usize;

@@ -47,7 +47,7 @@ pub struct BlockPlace {
 }
 
 /// Data numbers run from `low` up to `next`, blocks from `channel_low` up to `channel_next`. `log_window` is the peer's
-/// LogWindowSize, as its last accepted packet gave it.
+/// LogWindowSize, as its last accepted packet gave it; a dummy gives none.
 #[derive(Clone, Copy, PartialEq, Eq, Debug)]
 pub struct Sender {
     pub first_data: u64,
