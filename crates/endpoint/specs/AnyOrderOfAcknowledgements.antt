@@ -136,7 +136,7 @@ module _ (w cap : ℕ) (lw : 0 < w) (uw : w ≤ cap) (e : Endpoint) (h : soundOf
           accepted = sym (ack-answer w cap (e .halves) (k .datagram) (only (k .datagram) (k .listed)) receiver-sound) ∙ k .accepted;
         }
 
-    -- Where no packet is accepted it stays, whatever is carried: "refused ones" change nothing.
+    -- Where no packet is accepted it stays, whatever is carried: those that are refused move nothing.
     pub window-stays : (AcceptedBy w cap (e .halves) ds → ⊥) → broughtIn w cap (receiverOf (e .halves)) es ≡ false
         → callsOf w cap e cs .halves .sender .logwindow ≡ e .halves .sender .logwindow
     window-stays none quiet =

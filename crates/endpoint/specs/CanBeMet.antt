@@ -62,6 +62,12 @@ flags-of d n r f p q = ap (λ (x : Packet). x .values .flags) (read-once p (foun
 pub size-of : (d : List ℕ) (n : ℕ) → readOf d ≡ Read (found d) → found d .values .logwindow ≡ n → Sized n d
 size-of d n r f p q = ap (λ (x : Packet). x .values .logwindow) (read-once p (found d) (sym q ∙ r)) ∙ f
 
+-- what holds of three holds of each of their list
+pub each-of : (P : List ℕ → Type 0) (a b c : List ℕ) → P a → P b → P c → (d : List ℕ) → In d (a ∷ b ∷ c ∷ []) → P d
+each-of P a b c x y z d (List·Memᴰ·head e) = subst P (sym e) x
+each-of P a b c x y z d (List·Memᴰ·tail (List·Memᴰ·head e)) = subst P (sym e) y
+each-of P a b c x y z d (List·Memᴰ·tail (List·Memᴰ·tail (List·Memᴰ·head e))) = subst P (sym e) z
+
 abbrev pub Reads : List ℕ → ℕ → Type 0
 Reads d n = (readOf d ≡ Read (found d)) × (found d .values .flags ≡ n)
 
@@ -70,11 +76,11 @@ unfolding every readOf readPacket first swapped droppedBy endOf outside sixOf ac
 all-read = ((refl, refl), (refl, refl), (refl, refl), (refl, refl))
 
 pub three-carry-data : (d : List ℕ) → In d three → OnlyData d
-three-carry-data d (List·Memᴰ·head e) = subst OnlyData (sym e) (λ p q. inl (flags-of five 4 (all-read .0 .0) (all-read .0 .1) p q))
-three-carry-data d (List·Memᴰ·tail (List·Memᴰ·head e)) =
-    subst OnlyData (sym e) (λ p q. inr (flags-of waiving 20 (all-read .1 .0) (all-read .1 .1) p q))
-three-carry-data d (List·Memᴰ·tail (List·Memᴰ·tail (List·Memᴰ·head e))) =
-    subst OnlyData (sym e) (λ p q. inr (flags-of late 20 (all-read .2 .0) (all-read .2 .1) p q))
+three-carry-data =
+    each-of OnlyData five waiving late
+    (λ p q. inl (flags-of five 4 (all-read .0 .0) (all-read .0 .1) p q))
+    (λ p q. inr (flags-of waiving 20 (all-read .1 .0) (all-read .1 .1) p q))
+    (λ p q. inr (flags-of late 20 (all-read .2 .0) (all-read .2 .1) p q))
 
 -- So at every moment of a history of the three, each of them is accepted.
 pub three-accepted : (es : List Event) → From three es → (d : List ℕ) → In d three → receiveAnswer 32 32 (after 32 32 outset es .halves) d ≡ 0

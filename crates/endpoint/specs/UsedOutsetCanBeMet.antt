@@ -50,7 +50,7 @@ use Rattle.endpoint.specs.History.{OnlyData, OnlyAck, Between, nothing, 
 use Rattle.endpoint.specs.Steps.{data-no-ack, ack-answer}
 use Rattle.endpoint.specs.AnyOrderOfData as ofData
 use Rattle.endpoint.specs.AnyOrderOfAcknowledgements as ofAcks
-use Rattle.endpoint.specs.CanBeMet.{Reads, flags-of, size-of}
+use Rattle.endpoint.specs.CanBeMet.{Reads, flags-of, size-of, each-of}
 use Rattle.endpoint.specs.Brought.{any-in}
 use Rattle.endpoint.specs.UsedOutset.{usedReceiver, firstPlace, otherPlaces, number, block, usedSender, used, sender-consistent, used-sound, used-halves}
 
@@ -108,9 +108,7 @@ shownWaiving =
     record { packet = waivingPacket; brings = three-bring .2; fits = omega arith; block = refl; held = λ t. clash (heldIn 32 usedReceiver 35) t (some-held .2) }
 
 shown : (d : List ℕ) → In d usedSet → Shown 32 held body d
-shown d (List·Memᴰ·head e) = subst (Shown 32 held body) (sym e) shownForty
-shown d (List·Memᴰ·tail (List·Memᴰ·head e)) = subst (Shown 32 held body) (sym e) shownAgain
-shown d (List·Memᴰ·tail (List·Memᴰ·tail (List·Memᴰ·head e))) = subst (Shown 32 held body) (sym e) shownWaiving
+shown = each-of (Shown 32 held body) forty again waiving shownForty shownAgain shownWaiving
 
 -- THE SET.
 pub used-are-a-set : Set 32 32 (receiverOf (used .halves)) usedSet
@@ -176,15 +174,15 @@ all-sized : ((found forty .values .logwindow ≡ 5) × (found again .values .log
 unfolding readOf readPacket first swapped droppedBy endOf outside sixOf ackEnd overheadEnd delayEnd aoaEnd numberEnd vectorEnd channelEnd valuesOf packetOf partOf
 all-sized = ((refl, refl, refl), (refl, refl, refl))
 
-pub used-sized : (d : List ℕ) → In d usedSet → Sized 5 d
-used-sized d (List·Memᴰ·head e) = subst (Sized 5) (sym e) (size-of forty 5 (all-read .0 .0 .0) (all-sized .0 .0))
-used-sized d (List·Memᴰ·tail (List·Memᴰ·head e)) = subst (Sized 5) (sym e) (size-of again 5 (all-read .0 .1 .0) (all-sized .0 .1))
-used-sized d (List·Memᴰ·tail (List·Memᴰ·tail (List·Memᴰ·head e))) = subst (Sized 5) (sym e) (size-of waiving 5 (all-read .0 .2 .0) (all-sized .0 .2))
+used-sized : (d : List ℕ) → In d usedSet → Sized 5 d
+used-sized =
+    each-of (Sized 5) forty again waiving (size-of forty 5 (all-read .0 .0 .0) (all-sized .0 .0))
+    (size-of again 5 (all-read .0 .1 .0) (all-sized .0 .1)) (size-of waiving 5 (all-read .0 .2 .0) (all-sized .0 .2))
 
-pub acks-sized : (d : List ℕ) → In d usedAcks → Sized 5 d
-acks-sized d (List·Memᴰ·head e) = subst (Sized 5) (sym e) (size-of fiveAck 5 (all-read .1 .0 .0) (all-sized .1 .0))
-acks-sized d (List·Memᴰ·tail (List·Memᴰ·head e)) = subst (Sized 5) (sym e) (size-of nineVector 5 (all-read .1 .1 .0) (all-sized .1 .1))
-acks-sized d (List·Memᴰ·tail (List·Memᴰ·tail (List·Memᴰ·head e))) = subst (Sized 5) (sym e) (size-of neverSent 5 (all-read .1 .2 .0) (all-sized .1 .2))
+acks-sized : (d : List ℕ) → In d usedAcks → Sized 5 d
+acks-sized =
+    each-of (Sized 5) fiveAck nineVector neverSent (size-of fiveAck 5 (all-read .1 .0 .0) (all-sized .1 .0))
+    (size-of nineVector 5 (all-read .1 .1 .0) (all-sized .1 .1)) (size-of neverSent 5 (all-read .1 .2 .0) (all-sized .1 .2))
 
 forty-data : OnlyData forty
 forty-data p q = inl (flags-of forty 4 (all-read .0 .0 .0) (all-read .0 .0 .1) p q)
@@ -196,9 +194,7 @@ waiving-data : OnlyData waiving
 waiving-data p q = inr (flags-of waiving 20 (all-read .0 .2 .0) (all-read .0 .2 .1) p q)
 
 pub used-carry-data : (d : List ℕ) → In d usedSet → OnlyData d
-used-carry-data d (List·Memᴰ·head e) = subst OnlyData (sym e) forty-data
-used-carry-data d (List·Memᴰ·tail (List·Memᴰ·head e)) = subst OnlyData (sym e) again-data
-used-carry-data d (List·Memᴰ·tail (List·Memᴰ·tail (List·Memᴰ·head e))) = subst OnlyData (sym e) waiving-data
+used-carry-data = each-of OnlyData forty again waiving forty-data again-data waiving-data
 
 five-ack : OnlyAck fiveAck
 five-ack p q = inl (flags-of fiveAck 1 (all-read .1 .0 .0) (all-read .1 .0 .1) p q)
@@ -269,9 +265,7 @@ pub used-turned : turnedOf 32 acknowledging (namedIn 32 32 usedSender usedAcks) 
 used-turned = ap (λ (chosen : ℕ → Bool). turnedOf 32 acknowledging chosen usedSender) (fun-ext named-are) ∙ turned
 
 used-acks : (d : List ℕ) → In d usedAcks → OnlyAck d
-used-acks d (List·Memᴰ·head e) = subst OnlyAck (sym e) five-ack
-used-acks d (List·Memᴰ·tail (List·Memᴰ·head e)) = subst OnlyAck (sym e) nine-ack
-used-acks d (List·Memᴰ·tail (List·Memᴰ·tail (List·Memᴰ·head e))) = subst OnlyAck (sym e) never-ack
+used-acks = each-of OnlyAck fiveAck nineVector neverSent five-ack nine-ack never-ack
 
 -- THE CONCLUSION. In every history at this outset each acknowledgement gets its answer; and where the acknowledgements are these three, whatever their order and
 -- repeats, and whatever stands between that carries LogWindowSize 5, the sender's half settles.
