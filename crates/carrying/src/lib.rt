@@ -69,16 +69,18 @@ pub fn put_data(
     writer::write(values, b"", b"", block, out)
 }
 
-// The record after the next data number went out with block c, of so many bytes, at this tick.
+// The record after the next data number went out with block c, of so many bytes, at this tick. Its place then says that the block was
+// sent so many times.
 pub fn sent(
     s: Sender,
     tick: u32,
     c: ChannelNumber,
     length: u16,
+    sends: u8,
     channelnext: ChannelNumber,
 ) -> Sender
     requires { ⌜ s .next .0 ≤ pastHighest ⌝ }
-    ensures { λ r. ⌜ r ≡ sentOf 32 s tick (c .0) length (channelnext .0) ⌝ }
+    ensures { λ r. ⌜ r ≡ sentOf 32 s tick (c .0) length sends (channelnext .0) ⌝ }
 {
     let numberat = window::data_place(s.next);
     let blockat = window::channel_place(c);
@@ -93,6 +95,7 @@ pub fn sent(
     };
     q.blocks[blockat] = BlockPlace {
         state: sender::INFLIGHT,
+        sends,
         length,
     };
     q

@@ -34,7 +34,7 @@ withSender e s b = record { halves = record { sender = s; receiver = e .halves .
 abbrev pub withReceiver : Endpoint → Receiver → Endpoint
 withReceiver e r = record { halves = record { sender = e .halves .sender; receiver = r; store = e .halves .store }; sent = e .sent }
 
--- document 01's number for a call: 0, or the refusal
+-- the number that answers a call: 0, or the refusal of document 01, or of document 02 where a request adds one
 unfoldable pub answerOf : ℕ → ℕ → Endpoint → Call → ℕ
 answerOf w cap e (receives d) = receiveAnswer w cap (e .halves) d
 answerOf w cap e (takes room) = takeAnswer w cap (receiverOf (e .halves)) room

@@ -145,6 +145,8 @@ module _ (w cap : ℕ) (lw : 0 < w) (uw : w ≤ cap) (n c t : ℕ) (o : Opened n
         done = λ m l u p. absurd (omega arith);
         unused = λ m l u. place m;
         short = λ m l u. absurd (omega arith);
+        begun = λ m l u. absurd (omega arith);
+        few = λ m l u. absurd (omega arith);
         rests = λ m l u p. absurd (omega arith);
         vacant = λ m l u. block m;
         single = λ m l u p. absurd (omega arith);

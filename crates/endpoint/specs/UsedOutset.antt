@@ -56,12 +56,12 @@ others-long = let l = length-replicate {A = ℕ} 37974 0 in omega arith
 store-long : length usedStore ≡ storeSize 32
 store-long = length-append firstPlace otherPlaces ∙ omega (arith, first-long, others-long)
 
--- the sender's half
+-- the sender's half; blocks 3 to 6 have been sent once, three times, twice and six times
 abbrev pub number : ℕ → ℕ → ℕ → NumberPlace
 number state channel tick = record { state = state; channel = record { 0 = channel }; tick = tick }
 
-abbrev pub block : ℕ → ℕ → BlockPlace
-block state length = record { state = state; length = length }
+abbrev pub block : ℕ → ℕ → ℕ → BlockPlace
+block state sends length = record { state = state; sends = sends; length = length }
 
 abbrev pub usedSender : Sender
 usedSender =
@@ -76,7 +76,7 @@ usedSender =
       channelnext = record { 0 = 7 };
       numbers = replicate 5 noNumber
           ++ (number pending 3 10 ∷ number received 4 11 ∷ number lost 5 12 ∷ number pending 5 400 ∷ number pending 6 401 ∷ replicate 22 noNumber);
-      blocks = replicate 3 noBlock ++ (block inFlight 1 ∷ block acknowledged 2 ∷ block inFlight 3 ∷ block inFlight 4 ∷ replicate 25 noBlock);
+      blocks = replicate 3 noBlock ++ (block inFlight 1 1 ∷ block acknowledged 3 2 ∷ block inFlight 2 3 ∷ block inFlight 6 4 ∷ replicate 25 noBlock);
     }
 
 abbrev pub used : Endpoint

@@ -241,6 +241,7 @@ named-are n =
     rw (five, nine, never) refl
 
 -- Number 5 has turned, so low has passed 6 and 7 too and stands at 8, pending as before; 9 is received. Block 3 has turned, so channel low has passed 4 too.
+-- Block 5 is in flight, and 6 acknowledged, with their counts of 2 and 6 sends.
 -- The LogWindowSize is theirs.
 abbrev pub settledSender : Sender
 settledSender =
@@ -254,7 +255,7 @@ settledSender =
       channellow = record { 0 = 5 };
       channelnext = record { 0 = 7 };
       numbers = replicate 8 noNumber ++ (number pending 5 400 ∷ number received 6 401 ∷ replicate 22 noNumber);
-      blocks = replicate 5 noBlock ++ (block inFlight 3 ∷ block acknowledged 4 ∷ replicate 25 noBlock);
+      blocks = replicate 5 noBlock ++ (block inFlight 2 3 ∷ block acknowledged 6 4 ∷ replicate 25 noBlock);
     }
 
 turned : turnedOf 32 acknowledging named usedSender ≡ remembering 3 settledSender

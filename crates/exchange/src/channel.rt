@@ -16,9 +16,9 @@ pub(crate) fn after(seed: u32) -> u32 {
     next(next(seed))
 }
 
-// The place that the rule names.
-pub(crate) fn place(seed: u32) -> usize {
-    (seed / 65536 % 8) as usize
+// The place that the rule names, or one so many behind it.
+pub(crate) fn place(seed: u32, behind: u32) -> usize {
+    ((seed / 65536 % 8 + behind % 8) % 8) as usize
 }
 
 // Is a datagram at this place?

@@ -5,6 +5,9 @@ use common::Written;
 use receiver::Receiver;
 use sender::Sender;
 
+// The refusal of a resend whose block was sent six times.
+const SPENT: u8 = 22;
+
 // The two records of an endpoint, and its counts.
 pub struct End {
     pub sender: Sender,
@@ -17,6 +20,8 @@ pub struct End {
     // Numbers that a sweep found lost, and blocks sent again.
     pub lost: u32,
     pub resent: u32,
+    // How often a resend was refused with 22; the end says nothing more then.
+    pub stopped: u32,
     // Datagrams that it put over another, datagrams that it left to arrive once more, and datagrams that were refused.
     pub covered: u32,
     pub doubled: u32,
@@ -36,6 +41,7 @@ pub(crate) fn opened(firstdata: u32, firstchannel: u32) -> End {
         wrong: 0,
         lost: 0,
         resent: 0,
+        stopped: 0,
         covered: 0,
         doubled: 0,
         refused: 0,
@@ -106,7 +112,15 @@ fn puts(e: End, channel: &mut [u8], at: usize, datagram: &[u8], n: usize) -> End
     q
 }
 
-// Sends a waiting block again, or else the next one, up to so many.
+// The number of a refusal, and 0 where there is none.
+fn refusal(w: Written) -> u8 {
+    if let Written::Refused(n) = w {
+        return n;
+    }
+    0
+}
+
+// Sends a waiting block again, or else the next one, up to so many. An end whose block was sent six times gives up.
 fn sends(e: End, sent: &mut [u8], channel: &mut [u8], at: usize, tick: u32, upto: u32) -> End {
     let mut datagram = [0u8; 64];
     let again = resending::resend(e.sender, sent, tick, &mut datagram);
@@ -117,6 +131,11 @@ fn sends(e: End, sent: &mut [u8], channel: &mut [u8], at: usize, tick: u32, upto
         q.sender = s;
         q.resent = more(e.resent);
         return puts(q, channel, at, &datagram, n);
+    }
+    if refusal(w) == SPENT {
+        let mut q = e;
+        q.stopped = more(e.stopped);
+        return q;
     }
     if upto <= e.sent {
         return e;
@@ -177,17 +196,28 @@ fn leaves(e: End, channel: &mut [u8], at: usize, stays: bool) -> End {
     q
 }
 
-// What comes in at this tick: a datagram, and the block due.
-fn hears(e: End, store: &mut [u8], channel: &mut [u8], seed: u32) -> End {
-    let at = channel::place(seed);
+// What comes in at this place: a datagram, and the block due.
+fn hears_at(e: End, store: &mut [u8], channel: &mut [u8], seed: u32, at: usize) -> End {
     let q = receives(e, store, channel, at);
     let left = leaves(q, channel, at, seed / 1048576 % 8 == 0);
     takes(left, store)
 }
 
+// What comes in at two places, the first so many behind the one that the rule names.
+fn hears_two(e: End, store: &mut [u8], channel: &mut [u8], seed: u32, behind: u32) -> End {
+    let q = hears_at(e, store, channel, seed, channel::place(seed, behind));
+    hears_at(q, store, channel, seed, channel::place(seed, more(behind)))
+}
+
+// What comes in at this tick, at four places: so seldom is a datagram covered that no block is sent a seventh time.
+fn hears(e: End, store: &mut [u8], channel: &mut [u8], seed: u32) -> End {
+    let q = hears_two(e, store, channel, seed, 0);
+    hears_two(q, store, channel, seed, 2)
+}
+
 // What goes out at this tick: an acknowledgement or a block; every now and then a sweep before it.
 fn says(e: End, sent: &mut [u8], channel: &mut [u8], seed: u32, tick: u32, upto: u32) -> End {
-    let at = channel::place(seed);
+    let at = channel::place(seed, 0);
     let mut q = e;
     if seed / 8388608 % 8 == 0 {
         q = sweeps(e, tick);

@@ -23,6 +23,7 @@ fn counts(e: End) {
     count(b" covered=", e.covered);
     count(b" lost=", e.lost);
     count(b" resent=", e.resent);
+    count(b" stopped=", e.stopped);
     count(b" doubled=", e.doubled);
     count(b" refused=", e.refused);
     count(b" handed=", e.handed);
@@ -84,7 +85,7 @@ fn main() {
     let mut forth = [0u8; 512];
     let mut back = [0u8; 512];
     let mut seed: u32 = channel::next(1);
-    let mut tick: u32 = 4294900000;
+    let mut tick: u32 = 4294940000;
     let mut step: u32 = 0;
     while step < STEPS {
         if finished(here, there) {

@@ -31,7 +31,11 @@ unfolding numberLine
 number-parts i p = simp (append-assoc, append-nil)
 
 pub block-parts : (i : ℕ) (b : BlockPlace)
-    → between (ascii "sender.block") i (ascii "=") ++ (between [] (b .state) (ascii ",") ++ between [] (b .length) (ascii "\n")) ≡ blockLine i b
+    → between (ascii "sender.block") i (ascii "=")
+    ++ (between [] (b .state) (ascii ",")
+    ++ (between [] (b .length) (ascii ",")
+    ++ between [] (b .sends) (ascii "\n")))
+    ≡ blockLine i b
 unfolding blockLine
 block-parts i b = simp (append-assoc, append-nil)
 

@@ -25,13 +25,14 @@ unfoldable pub allPlaces : (ℕ → List ℕ) → ℕ → List ℕ
 allPlaces f zero = []
 allPlaces f (suc n) = allPlaces f n ++ f n
 
--- the sender's places: state, channel number and tick of a data number; state and length of a block
+-- the sender's places: state, channel number and tick of a data number; state, length and sends of a block
 unfoldable pub numberLine : ℕ → NumberPlace → List ℕ
 numberLine i p =
     placeLine "sender.number" i (comma (decimalOf (p .state)) (comma (decimalOf (p .channel .0)) (decimalOf (p .tick))))
 
 unfoldable pub blockLine : ℕ → BlockPlace → List ℕ
-blockLine i b = placeLine "sender.block" i (comma (decimalOf (b .state)) (decimalOf (b .length)))
+blockLine i b =
+    placeLine "sender.block" i (comma (decimalOf (b .state)) (comma (decimalOf (b .length)) (decimalOf (b .sends))))
 
 unfoldable pub senderPlace : Sender → ℕ → List ℕ
 senderPlace s i = numberLine i (getD (s .numbers) i noNumber) ++ blockLine i (getD (s .blocks) i noBlock)

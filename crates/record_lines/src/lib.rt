@@ -71,18 +71,19 @@ fn number_line(out: &mut [u8], at: usize, i: u64, p: NumberPlace) -> usize
 
 // A place of a block that was sent.
 fn block_line(out: &mut [u8], at: usize, i: u64, b: BlockPlace) -> usize
-    requires { ⌜ at + 75 ≤ length (now out) ⌝ }
-    ensures { λ r. ⌜ LaidWithin 75 (blockLine i b) (now (out .entry)) at (now (out .exit)) r ⌝ }
+    requires { ⌜ at + 96 ≤ length (now out) ⌝ }
+    ensures { λ r. ⌜ LaidWithin 96 (blockLine i b) (now (out .entry)) at (now (out .exit)) r ⌝ }
 {
     let at1 = named(out, at, b"sender.block", i);
     let at2 = comma(out, at1, b.state as u64);
-    last(out, at2, b.length as u64)
+    let at3 = comma(out, at2, b.length as u64);
+    last(out, at3, b.sends as u64)
 }
 
 // The sender's places.
 fn sender_places(out: &mut [u8], at: usize, s: Sender) -> usize
-    requires { ⌜ at + 5504 ≤ length (now out) ⌝ }
-    ensures { λ r. ⌜ LaidWithin 5504 (allPlaces (senderPlace s) 32) (now (out .entry)) at (now (out .exit)) r ⌝ }
+    requires { ⌜ at + 6176 ≤ length (now out) ⌝ }
+    ensures { λ r. ⌜ LaidWithin 6176 (allPlaces (senderPlace s) 32) (now (out .entry)) at (now (out .exit)) r ⌝ }
 {
     let mut to = at;
     let mut i = 0;
@@ -161,8 +162,8 @@ fn receiver_fields(out: &mut [u8], at: usize, r: Receiver) -> usize
 
 // The full record.
 pub fn full_record(out: &mut [u8], at: usize, s: Sender, r: Receiver) -> usize
-    requires { ⌜ at + 10179 ≤ length (now out) ⌝ }
-    ensures { λ x. ⌜ LaidWithin 10179 (recordText s r) (now (out .entry)) at (now (out .exit)) x ⌝ }
+    requires { ⌜ at + 10851 ≤ length (now out) ⌝ }
+    ensures { λ x. ⌜ LaidWithin 10851 (recordText s r) (now (out .entry)) at (now (out .exit)) x ⌝ }
 {
     let at1 = sender_fields(out, at, s);
     let at2 = sender_places(out, at1, s);

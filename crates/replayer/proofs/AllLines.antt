@@ -58,7 +58,7 @@ lines-none = refl
 module _ {t store₀ sent₀ out₀ : List ℕ} {s : State} {store sent out : List ℕ} {at from : ℕ} (r : Ran t store₀ sent₀ out₀ s store sent out at from)
     (short : length t ≤ 65536) (wide : 131072 ≤ length out₀) where
   -- there is room for an answer, and for what follows the last line
-  pub ran-room : at + 10209 ≤ length out
+  pub ran-room : at + 10881 ≤ length out
   ran-room = omega (arith, r .room, r .ends, r .same)
 
   -- the line is in the trace
@@ -90,7 +90,7 @@ module _ {t store₀ sent₀ out₀ : List ℕ} {s : State} {store sent out : Li
         same = within-length fits (x .text) ∙ r .same;
       }
 
-  pub ran-end : {out′ : List ℕ} {k : ℕ} → length t ≤ from → LaidWithin 10209 (endText (machineOf s store sent)) out at out′ k
+  pub ran-end : {out′ : List ℕ} {k : ℕ} → length t ≤ from → LaidWithin 10881 (endText (machineOf s store sent)) out at out′ k
       → LaidWithin 131072 (runOf (begun store₀ sent₀) (linesOf t)) out₀ 0 out′ k
   ran-end {out′} {k} h x =
       let m = machineOf s store sent in

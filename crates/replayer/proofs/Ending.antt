@@ -23,29 +23,29 @@ unfolding answerLine
 plain n k = refl
 
 module _ (due : ℕ) (s : Sender) (r : Receiver) {d e : List ℕ} {at x : ℕ} where
-  pub ends-record : due ≡ 4 → LaidWithin 10179 (recordText s r) d at e x → LaidWithin 10209 (endFor due s r) d at e x
+  pub ends-record : due ≡ 4 → LaidWithin 10851 (recordText s r) d at e x → LaidWithin 10881 (endFor due s r) d at e x
   unfolding endFor
-  ends-record h l = rw (eq-eqb _ _ h) (within-wider 10209 (omega arith) l)
+  ends-record h l = rw (eq-eqb _ _ h) (within-wider 10881 (omega arith) l)
 
-  pub ends-fifteen : (due ≡ 4 → ⊥) → due ≡ 9 → LaidWithin 30 (answerLine false 15 0) d at e x → LaidWithin 10209 (endFor due s r) d at e x
+  pub ends-fifteen : (due ≡ 4 → ⊥) → due ≡ 9 → LaidWithin 30 (answerLine false 15 0) d at e x → LaidWithin 10881 (endFor due s r) d at e x
   unfolding endFor
-  ends-fifteen h g l = rw (ne-eqb _ _ h, eq-eqb _ _ g) (within-as (plain 15 0) (within-wider 10209 (omega arith) l))
+  ends-fifteen h g l = rw (ne-eqb _ _ h, eq-eqb _ _ g) (within-as (plain 15 0) (within-wider 10881 (omega arith) l))
 
-  pub ends-headless : (due ≡ 4 → ⊥) → (due ≡ 9 → ⊥) → due < 4 → LaidWithin 30 (answerLine false 16 0) d at e x → LaidWithin 10209 (endFor due s r) d at e x
+  pub ends-headless : (due ≡ 4 → ⊥) → (due ≡ 9 → ⊥) → due < 4 → LaidWithin 30 (answerLine false 16 0) d at e x → LaidWithin 10881 (endFor due s r) d at e x
   unfolding endFor
-  ends-headless h g i l = rw (ne-eqb _ _ h, ne-eqb _ _ g, lt-ltb _ _ i) (within-as (plain 16 0) (within-wider 10209 (omega arith) l))
+  ends-headless h g i l = rw (ne-eqb _ _ h, ne-eqb _ _ g, lt-ltb _ _ i) (within-as (plain 16 0) (within-wider 10881 (omega arith) l))
 
-  pub ends-broken : {f : List ℕ} {y : ℕ} → at + 10209 ≤ length d → (due ≡ 4 → ⊥) → (due ≡ 9 → ⊥) → 4 ≤ due → due ≤ 7
-      → LaidWithin 30 (answerLine false 16 0) d at f y → LaidWithin 10179 (recordText s r) f y e x → LaidWithin 10209 (endFor due s r) d at e x
+  pub ends-broken : {f : List ℕ} {y : ℕ} → at + 10881 ≤ length d → (due ≡ 4 → ⊥) → (due ≡ 9 → ⊥) → 4 ≤ due → due ≤ 7
+      → LaidWithin 30 (answerLine false 16 0) d at f y → LaidWithin 10851 (recordText s r) f y e x → LaidWithin 10881 (endFor due s r) d at e x
   unfolding endFor
   ends-broken m h g i j a b =
-      rw (ne-eqb _ _ h, ne-eqb _ _ g, le-ltb _ _ i, le-leb _ _ j) (within-then {k = 30} {m = 10179} m (within-as (plain 16 0) a) (λ n. b))
+      rw (ne-eqb _ _ h, ne-eqb _ _ g, le-ltb _ _ i, le-leb _ _ j) (within-then {k = 30} {m = 10851} m (within-as (plain 16 0) a) (λ n. b))
 
   pub ends-other : (due ≡ 4 → ⊥) → (due ≡ 9 → ⊥) → 4 ≤ due → 7 < due → LaidWithin 30 (answerLine false 16 0) d at e x
-      → LaidWithin 10209 (endFor due s r) d at e x
+      → LaidWithin 10881 (endFor due s r) d at e x
   unfolding endFor
   ends-other h g i j l =
-      rw (ne-eqb _ _ h, ne-eqb _ _ g, le-ltb _ _ i, lt-leb _ _ j) (within-as (plain 16 0) (within-wider 10209 (omega arith) l))
+      rw (ne-eqb _ _ h, ne-eqb _ _ g, le-ltb _ _ i, lt-leb _ _ j) (within-as (plain 16 0) (within-wider 10881 (omega arith) l))
 
 -- The whole: a trace that is too long, and one that is replayed line by line.
 

@@ -19,8 +19,8 @@ pub const ROOM: usize = 131072;
 
 // What follows the last line.
 fn finish(s: State, out: &mut [u8], at: usize) -> usize
-    requires { ⌜ at + 10209 ≤ length (now out) ⌝ }
-    ensures { λ r. ⌜ LaidWithin 10209 (endFor (s .cursor .due) (s .sender) (s .receiver)) (now (out .entry)) at (now (out .exit)) r ⌝ }
+    requires { ⌜ at + 10881 ≤ length (now out) ⌝ }
+    ensures { λ r. ⌜ LaidWithin 10881 (endFor (s .cursor .due) (s .sender) (s .receiver)) (now (out .entry)) at (now (out .exit)) r ⌝ }
 {
     let c = s.cursor;
     let due = c.due;

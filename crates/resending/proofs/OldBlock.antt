@@ -17,12 +17,12 @@ use Rattle.window.specs.Store.{placeSize, storeSize, size-wrong, size-right}
 use Rattle.sender.specs.declared.Sender.{Sender}
 use Rattle.resending.specs.declared.Lowest.{Lowest}
 use Rattle.resending.specs.declared.Lowest.the-variants.{Nothing, Block}
-use Rattle.sender.specs.Record.{longestSent, State, isWaiting, noBlock, blockAt, contents}
+use Rattle.sender.specs.Record.{longestSent, mostSends, State, isWaiting, noBlock, blockAt, contents}
 use Rattle.sender.specs.Consistent.{consistentOf, soundOf}
-use Rattle.sender.specs.Send.{dataBytes, numbersFull, sentOf, waitingFrom, lowestWaiting, isNone, resendDatagram, resendAnswer, resendOf}
+use Rattle.sender.specs.Send.{dataBytes, numbersFull, sentOf, waitingFrom, lowestWaiting, isNone, lowestSpent, resendDatagram, resendAnswer, resendOf}
 use Rattle.resending.specs.Lowest.{lowestOf}
 use Rattle.sender.specs.Facts.{consistent-facts}
-use Rattle.sender.specs.SendReady.{sound-facts, waiting-found}
+use Rattle.sender.specs.SendReady.{sound-facts, waiting-found, spent-is}
 use Rattle.carrying.proofs.Told.{refused-is, wrote-is}
 
 -- the number that was found, from what the code hands on
@@ -74,13 +74,15 @@ module _ (w : ℕ) where
       let e : next - c ≡ 0 = omega arith in
       ap lowestOf (sym (ap (waitingFrom w s c) e) ∙ h)
 
-  -- the block that waits is in range, and so is short
-  pub block-short : (s : Sender) (size c : ℕ) → 0 < w → soundOf w w s size ≡ true → lowestWaiting w s ≡ some c → blockAt w s c .length ≤ longestSent
+  -- the block that waits is in range, and so is short and was sent few times
+  pub block-few : (s : Sender) (size c : ℕ) → 0 < w → soundOf w w s size ≡ true → lowestWaiting w s ≡ some c
+      → (blockAt w s c .length ≤ longestSent) × (blockAt w s c .sends ≤ mostSends)
   unfolding lowestWaiting
-  block-short s size c lw h e =
+  block-few s size c lw h e =
       let f = consistent-facts w w s lw (omega arith) (sound-facts w w s size h .0) in
       let j = waiting-found w s (s .channelnext .0 - s .channellow .0) (s .channellow .0) c e in
-      f .short c (j .least) (omega (arith, j .most, f .bounds .channelnext))
+      let u : c < s .channelnext .0 = omega (arith, j .most, f .bounds .channelnext) in
+      (f .short c (j .least) u, f .few c (j .least) u)
 
   -- the datagram, with the part of the store that is lent
   pub datagram-is : (s : State) (c at : ℕ) → at ≡ c % w → lowestWaiting w (s .sender) ≡ some c
@@ -122,28 +124,59 @@ module _ (w : ℕ) where
   unfolding resendAnswer
   resend-none s tick out h e = refuses s tick out 11 (first-here _ _ _ (lowest-none (lowestWaiting w (s .sender)) e) ∙ first-skip _ _ _ (ap not h)) (λ z. omega arith)
 
-  pub resend-used : (s : State) (tick : ℕ) (out : List ℕ) (c : ℕ) → soundOf w w (s .sender) (length (s .store)) ≡ true → lowestWaiting w (s .sender) ≡ some c
-      → highest < s .sender .next .0 → Resent s tick out (Refused 12) (s .sender) out
-  unfolding resendAnswer
-  resend-used s tick out c h e l = refuses s tick out 12 (first-here _ _ _ (lt-ltb _ _ l) ∙ first-skip _ _ _ (ap isNone e) ∙ first-skip _ _ _ (ap not h)) (λ z. omega arith)
+  -- the record is sound and block c is the one that waits: 22 is judged next, by its place
+  pub record Found (s : State) (c : ℕ) : Type 0 where
+    pub sound : soundOf w w (s .sender) (length (s .store)) ≡ true
+    pub waits : lowestWaiting w (s .sender) ≡ some c
 
-  pub resend-full : (s : State) (tick : ℕ) (out : List ℕ) (c : ℕ) (f : Bool) → soundOf w w (s .sender) (length (s .store)) ≡ true → lowestWaiting w (s .sender) ≡ some c
-      → s .sender .next .0 ≤ highest → f ≡ numbersFull w (s .sender) → f ≡ true → Resent s tick out (Refused 9) (s .sender) out
+  pub resend-spent : (s : State) (tick : ℕ) (out : List ℕ) (c : ℕ) → Found s c → blockAt w (s .sender) c .sends ≡ mostSends → Resent s tick out (Refused 22) (s .sender) out
   unfolding resendAnswer
-  resend-full s tick out c f h e l g u =
-      refuses s tick out 9 (first-here _ _ _ (sym g ∙ u) ∙ first-skip _ _ _ (le-ltb _ _ l) ∙ first-skip _ _ _ (ap isNone e) ∙ first-skip _ _ _ (ap not h)) (λ z. omega arith)
+  resend-spent s tick out c f t =
+      refuses s tick out 22
+      (first-here _ _ _ (spent-is w (s .sender) c (f .waits) ∙ eq-eqb _ _ t) ∙ first-skip _ _ _ (ap isNone (f .waits)) ∙ first-skip _ _ _ (ap not (f .sound)))
+      (λ z. omega arith)
+
+  -- and it may be sent once more: only data numbers and the room are left to judge
+  pub record Unspent (s : State) (c : ℕ) : Type 0 where
+    pub found : Found s c
+    pub below : blockAt w (s .sender) c .sends ≡ mostSends → ⊥
+
+  unspent : (s : State) (c : ℕ) → Unspent s c → lowestSpent w (s .sender) ≡ false
+  unspent s c u = spent-is w (s .sender) c (u .found .waits) ∙ ne-eqb _ _ (u .below)
+
+  pub resend-used : (s : State) (tick : ℕ) (out : List ℕ) (c : ℕ) → Unspent s c → highest < s .sender .next .0 → Resent s tick out (Refused 12) (s .sender) out
+  unfolding resendAnswer
+  resend-used s tick out c u l =
+      refuses s tick out 12
+      (first-here _ _ _ (lt-ltb _ _ l) ∙ first-skip _ _ _ (unspent s c u) ∙ first-skip _ _ _ (ap isNone (u .found .waits)) ∙ first-skip _ _ _ (ap not (u .found .sound)))
+      (λ z. omega arith)
+
+  pub resend-full : (s : State) (tick : ℕ) (out : List ℕ) (c : ℕ) (f : Bool) → Unspent s c → s .sender .next .0 ≤ highest → f ≡ numbersFull w (s .sender) → f ≡ true
+      → Resent s tick out (Refused 9) (s .sender) out
+  unfolding resendAnswer
+  resend-full s tick out c f u l g t =
+      refuses s tick out 9
+      (first-here _ _ _ (sym g ∙ t)
+      ∙ first-skip _ _ _ (le-ltb _ _ l)
+      ∙ first-skip _ _ _ (unspent s c u)
+      ∙ first-skip _ _ _ (ap isNone (u .found .waits))
+      ∙ first-skip _ _ _ (ap not (u .found .sound)))
+      (λ z. omega arith)
 
   -- past these, the room decides
   pub record Ready (s : State) (c : ℕ) : Type 0 where
-    pub sound : soundOf w w (s .sender) (length (s .store)) ≡ true
-    pub waits : lowestWaiting w (s .sender) ≡ some c
+    pub again : Unspent s c
     pub fresh : s .sender .next .0 ≤ highest
     pub free : numbersFull w (s .sender) ≡ false
 
   ready-room : (s : State) (c room : ℕ) → Ready s c → roomAnswer (resendDatagram w s) room ≡ resendAnswer w w s room
   unfolding resendAnswer roomAnswer
   ready-room s c room o =
-      first-skip _ _ _ (o .free) ∙ first-skip _ _ _ (le-ltb _ _ (o .fresh)) ∙ first-skip _ _ _ (ap isNone (o .waits)) ∙ first-skip _ _ _ (ap not (o .sound))
+      first-skip _ _ _ (o .free)
+      ∙ first-skip _ _ _ (le-ltb _ _ (o .fresh))
+      ∙ first-skip _ _ _ (unspent s c (o .again))
+      ∙ first-skip _ _ _ (ap isNone (o .again .found .waits))
+      ∙ first-skip _ _ _ (ap not (o .again .found .sound))
 
   module _ (s : State) (tick : ℕ) (out : List ℕ) (c : ℕ) (o : Ready s c) (d : List ℕ) (is : d ≡ resendDatagram w s) where
     said : (x : Written) → x ≡ writtenOf (roomAnswer d (length out)) d → x ≡ writtenOf (resendAnswer w w s (length out)) (resendDatagram w s)
@@ -165,8 +198,8 @@ module _ (w : ℕ) where
 
     pub resend-sent : (left : List ℕ) (x : Written) (k : ℕ) (q : Sender) → x ≡ Wrote k → x ≡ writtenOf (roomAnswer d (length out)) d
         → left ≡ leftOf (roomAnswer d (length out)) d out
-        → q ≡ sentOf w (s .sender) tick c (blockAt w (s .sender) c .length) (s .sender .channelnext .0) → Resent s tick out (Wrote k) q left
+        → q ≡ sentOf w (s .sender) tick c (blockAt w (s .sender) c .length) (blockAt w (s .sender) c .sends + 1) (s .sender .channelnext .0) → Resent s tick out (Wrote k) q left
     unfolding resendOf
     resend-sent left x k q r e g u =
         let y = sym r ∙ said x e in
-        record { written = y; sender = rw (eq-eqb _ _ (wrote-is k _ _ y), o .waits) u; bytes = laid left g }
+        record { written = y; sender = rw (eq-eqb _ _ (wrote-is k _ _ y), o .again .found .waits) u; bytes = laid left g }

@@ -34,7 +34,7 @@ fn lowest_waiting(s: Sender) -> Lowest
 }
 
 // Sends the waiting block of lowest channel number again, from the sender's own store: writes its datagram, under a new data number, into out.
-// Refused with 13, 11, 12, 9, 14, in this order.
+// Refused with 13, 11, 22, 12, 9, 14, in this order; with 22 if that block was sent six times, whether others wait behind it or not.
 pub fn resend(s: Sender, store: &[u8], tick: u32, out: &mut [u8]) -> Outcome
     ensures answer { λ r. ⌜ r .written ≡ writtenOf (resendAnswer 32 32 (state s (now (store .entry))) (length (now (out .entry)))) (resendDatagram 32 (state s (now (store .entry)))) ⌝ }
     ensures record { λ r. ⌜ r .sender ≡ resendOf 32 32 (state s (now (store .entry))) tick (length (now (out .entry))) ⌝ }
@@ -58,6 +58,16 @@ pub fn resend(s: Sender, store: &[u8], tick: u32, out: &mut [u8]) -> Outcome
             sender: s,
         };
     };
+    // The block's place is read from a copy of the places, so that the record is not copied.
+    let at = window::channel_place(c);
+    let places = s.blocks;
+    let b = places[at];
+    if b.sends == sender::MOST_SENDS {
+        return Outcome {
+            written: Written::Refused(22),
+            sender: s,
+        };
+    }
     let low = s.low;
     let next = s.next;
     if numbers::HIGHEST < next.0 {
@@ -72,10 +82,6 @@ pub fn resend(s: Sender, store: &[u8], tick: u32, out: &mut [u8]) -> Outcome
             sender: s,
         };
     }
-    // The block's place is read from a copy of the places, so that the record is not copied.
-    let at = window::channel_place(c);
-    let places = s.blocks;
-    let b = places[at];
     let length = b.length;
     let start = at * window::PLACE;
     match carrying::put_data(low, next, c, &store[start..start + length as usize], out) {
@@ -84,7 +90,7 @@ pub fn resend(s: Sender, store: &[u8], tick: u32, out: &mut [u8]) -> Outcome
             sender: s,
         },
         Written::Wrote(k) => {
-            let q = carrying::sent(s, tick, c, length, s.channelnext);
+            let q = carrying::sent(s, tick, c, length, b.sends + 1, s.channelnext);
             Outcome {
                 written: Written::Wrote(k),
                 sender: q,

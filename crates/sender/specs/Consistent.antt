@@ -11,7 +11,7 @@ use Rattle.window.specs.Store.{soundWith}
 use Rattle.sender.specs.declared.NumberPlace.{NumberPlace}
 use Rattle.sender.specs.declared.BlockPlace.{BlockPlace}
 use Rattle.sender.specs.declared.Sender.{Sender}
-use Rattle.sender.specs.Record.{shortestTimeout, longestTimeout, longestSent, isPending, isInFlight, isWaiting, isAcknowledged, numberPasses, noNumber, noBlock, numberAt, blockAt}
+use Rattle.sender.specs.Record.{shortestTimeout, longestTimeout, longestSent, mostSends, isPending, isInFlight, isWaiting, isAcknowledged, numberPasses, noNumber, noBlock, numberAt, blockAt}
 
 -- "a first .. is outside opening's range"; ".. a next or a low is below its first or above 4,294,967,296"; "one of the sender's two ranges exceeds 32
 -- or runs backwards"
@@ -39,7 +39,7 @@ unfoldable pub zeroNumber : NumberPlace → Bool
 zeroNumber p = every (eqb (p .state) 0 ∷ eqb (p .channel .0) 0 ∷ eqb (p .tick) 0 ∷ [])
 
 unfoldable pub zeroBlock : BlockPlace → Bool
-zeroBlock b = every (eqb (b .state) 0 ∷ eqb (b .length) 0 ∷ [])
+zeroBlock b = every (eqb (b .state) 0 ∷ eqb (b .length) 0 ∷ eqb (b .sends) 0 ∷ [])
 
 -- "a pending number's block is not in range and in flight"; fly is whether the block at its channel number's place is in flight
 abbrev pub pendingTests : NumberPlace → Bool → ℕ → ℕ → List Bool
@@ -65,11 +65,20 @@ carries w s c i = every (isPending (numberAt w s (s .low .0 + i)) ∷ eqb (numbe
 unfoldable pub oneCarrier : ℕ → Sender → ℕ → Bool
 oneCarrier w s c = eqb (countBelow (carries w s c) w) 1
 
--- the place of block c: zero from channel next on, and below it in flight with one carrier, waiting or acknowledged; "a held length exceeds .. a sent one 1,223"
+-- the place of a block below channel next: "a held length exceeds .. a sent one 1,223"; how often it was sent, "any but 1 to 6 is inconsistent" (document 02, W11); in flight
+-- with one carrier, waiting or acknowledged
+abbrev pub blockTests : BlockPlace → Bool → List Bool
+blockTests b single =
+    leb (b .length) longestSent
+    ∷ leb 1 (b .sends)
+    ∷ leb (b .sends) mostSends
+    ∷ cond (isInFlight b) single (cond (isWaiting b) true (isAcknowledged b))
+    ∷ []
+
+-- the place of block c: zero from channel next on
 unfoldable pub blockFits : BlockPlace → Bool → ℕ → ℕ → Bool
 blockFits b single c channelnext =
-    cond (leb channelnext c) (zeroBlock b)
-    (every (leb (b .length) longestSent ∷ cond (isInFlight b) single (cond (isWaiting b) true (isAcknowledged b)) ∷ []))
+    cond (leb channelnext c) (zeroBlock b) (every (blockTests b single))
 
 unfoldable pub numberOk : ℕ → Sender → ℕ → Bool
 numberOk w s i =

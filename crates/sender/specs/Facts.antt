@@ -16,9 +16,9 @@ use Rattle.window.specs.Sliding.{Shape}
 use Rattle.window.specs.Places.{at-number}
 use Rattle.sender.specs.declared.NumberPlace.{NumberPlace}
 use Rattle.sender.specs.declared.Sender.{Sender}
-use Rattle.sender.specs.Record.{shortestTimeout, longestTimeout, longestSent, isPending, isInFlight, isWaiting, isAcknowledged, numberPasses, blockPasses, noNumber, noBlock, numberAt, blockAt}
-use Rattle.sender.specs.PlaceTests.{zero-number, number-zero, zero-block, block-zero, number-past, number-pending, number-done, heldTests, block-past, block-held, carried, carrying}
-use Rattle.sender.specs.Consistent.{rangeTests, rangeFits, timeoutTests, timeoutFits, numberFits, carries, oneCarrier, blockFits, numberOk, blockOk, spareNumber, spareBlock, consistencyTests, consistentOf}
+use Rattle.sender.specs.Record.{shortestTimeout, longestTimeout, longestSent, mostSends, isPending, isInFlight, isWaiting, isAcknowledged, numberPasses, blockPasses, noNumber, noBlock, numberAt, blockAt}
+use Rattle.sender.specs.PlaceTests.{zero-number, number-zero, zero-block, block-zero, number-past, number-pending, number-done, block-past, block-held, carried, carrying}
+use Rattle.sender.specs.Consistent.{rangeTests, rangeFits, timeoutTests, timeoutFits, numberFits, carries, oneCarrier, blockTests, blockFits, numberOk, blockOk, spareNumber, spareBlock, consistencyTests, consistentOf}
 
 pub record Bounds (w : ℕ) (s : Sender) : Type 0 where
   pub firstdata : s .firstdata .0 ≤ highestFirst
@@ -67,6 +67,8 @@ pub record Facts (w cap : ℕ) (s : Sender) : Type 0 where
   pub done : (n : ℕ) → s .low .0 ≤ n → n < s .next .0 → isPending (numberAt w s n) ≡ false → Done w s n
   pub unused : (n : ℕ) → s .next .0 ≤ n → n < s .low .0 + w → numberAt w s n ≡ noNumber
   pub short : (c : ℕ) → s .channellow .0 ≤ c → c < s .channelnext .0 → blockAt w s c .length ≤ longestSent
+  pub begun : (c : ℕ) → s .channellow .0 ≤ c → c < s .channelnext .0 → 1 ≤ blockAt w s c .sends
+  pub few : (c : ℕ) → s .channellow .0 ≤ c → c < s .channelnext .0 → blockAt w s c .sends ≤ mostSends
   pub rests : (c : ℕ) → s .channellow .0 ≤ c → c < s .channelnext .0 → isInFlight (blockAt w s c) ≡ false
       → cond (isWaiting (blockAt w s c)) true (isAcknowledged (blockAt w s c)) ≡ true
   pub vacant : (c : ℕ) → s .channelnext .0 ≤ c → c < s .channellow .0 + w → blockAt w s c ≡ noBlock
@@ -128,14 +130,14 @@ module _ (w cap : ℕ) (s : Sender) where
           most = ltb-true _ _ (every-at _ h 2);
         }
 
-    held : (c : ℕ) → s .channellow .0 ≤ c → c < s .channelnext .0 → every (heldTests (blockAt w s c) (oneCarrier w s c)) ≡ true
+    held : (c : ℕ) → s .channellow .0 ≤ c → c < s .channelnext .0 → every (blockTests (blockAt w s c) (oneCarrier w s c)) ≡ true
     held c l u = sym (block-held (blockAt w s c) _ c _ u) ∙ bs c l (omega (arith, b .channelroom))
 
     counted : (c : ℕ) → s .channellow .0 ≤ c → c < s .channelnext .0 → isInFlight (blockAt w s c) ≡ true → countBelow (carries w s c) w ≡ 1
     unfolding oneCarrier
     counted c l u t =
         eqb-true _ _
-        (subst (λ (x : Bool). cond x (oneCarrier w s c) (cond (isWaiting (blockAt w s c)) true (isAcknowledged (blockAt w s c))) ≡ true) t (every-at _ (held c l u) 1))
+        (subst (λ (x : Bool). cond x (oneCarrier w s c) (cond (isWaiting (blockAt w s c)) true (isAcknowledged (blockAt w s c))) ≡ true) t (every-at _ (held c l u) 3))
 
     one-carrier : (c : ℕ) → s .channellow .0 ≤ c → c < s .channelnext .0 → isInFlight (blockAt w s c) ≡ true → Carrier w s c
     one-carrier c l u t =
@@ -167,9 +169,11 @@ module _ (w cap : ℕ) (s : Sender) where
         done = done-range b ns bs;
         unused = λ n l u. zero-number (numberAt w s n) (sym (number-past (numberAt w s n) _ n _ _ _ _ l) ∙ ns n (omega (arith, b .next)) u);
         short = λ c l u. leb-true _ _ (every-at _ (held b ns bs c l u) 0);
+        begun = λ c l u. leb-true _ _ (every-at _ (held b ns bs c l u) 1);
+        few = λ c l u. leb-true _ _ (every-at _ (held b ns bs c l u) 2);
         rests = λ c l u t.
             subst (λ (x : Bool). cond x (oneCarrier w s c) (cond (isWaiting (blockAt w s c)) true (isAcknowledged (blockAt w s c))) ≡ true) t
-            (every-at _ (held b ns bs c l u) 1);
+            (every-at _ (held b ns bs c l u) 3);
         vacant = λ c l u. zero-block (blockAt w s c) (sym (block-past (blockAt w s c) _ c _ l) ∙ bs c (omega (arith, b .channelnext)) u);
         single = one-carrier b ns bs;
         only = no-other b ns bs;
@@ -252,7 +256,7 @@ module _ (w cap : ℕ) (s : Sender) where
   block-fits : Facts w cap s → (c : ℕ) → s .channellow .0 ≤ c → c < s .channellow .0 + w → blockJudged c ≡ true
   block-fits f c l u =
       ⊎-elim
-      (λ lt. block-held (blockAt w s c) _ c _ lt ∙ all-every _ (le-leb _ _ (f .short c l lt), (state lt, tt)))
+      (λ lt. block-held (blockAt w s c) _ c _ lt ∙ all-every _ (le-leb _ _ (f .short c l lt), (le-leb _ _ (f .begun c l lt), (le-leb _ _ (f .few c l lt), (state lt, tt)))))
       (λ ge. block-past (blockAt w s c) _ c _ ge ∙ block-zero _ (f .vacant c ge u))
       (lt-or-ge c (s .channelnext .0))
     where

@@ -22,4 +22,5 @@ pub mod Remembering
 pub mod TurnedFacts
 pub mod SentFacts
 pub mod SendReady
+pub mod States
 pub mod Tells

@@ -30,7 +30,7 @@ fresh-consistent = refl
 
 -- block 0 of five bytes has gone out at tick 7 under number 0
 abbrev pub oneOut : Sender
-oneOut = sentOf 32 fresh 7 0 5 1
+oneOut = sentOf 32 fresh 7 0 5 1 1
 
 pub one-consistent : (consistentOf 32 32 oneOut ≡ true) × (isPending (numberAt 32 oneOut 0) ≡ true)
 unfolding consistentOf rangeFits timeoutFits every allBelow countBelow implies zeroNumber zeroBlock numberFits carries oneCarrier blockFits numberOk blockOk spareNumber spareBlock

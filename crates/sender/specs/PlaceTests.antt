@@ -1,10 +1,10 @@
 -- What the tests of one place come to, by where its number stands and what its state is.
 use Prim.Native.Nat.{ℕ, _+_, _-_, _≤_, _<_}
-use mathlib.Core.Bool.{Bool, true, false, cond}
+use mathlib.Core.Bool.{Bool, true, false}
 use mathlib.Core.List.{List, [], _∷_}
 use mathlib.Core.Path.{_≡_, refl, ap, subst}
 use native.Mathlib.Omega.{arith}
-use lib.Dec.{eqb, leb}
+use lib.Dec.{eqb}
 use lib.ListN.{length}
 use borrow.Author.Tests.{eqb-true, le-leb, lt-leb, eq-eqb}
 use Rattle.common.specs.Every.{every}
@@ -12,8 +12,8 @@ use Rattle.common.specs.EveryLaws.{all-every, every-at}
 use Rattle.sender.specs.declared.NumberPlace.{NumberPlace}
 use Rattle.sender.specs.declared.BlockPlace.{BlockPlace}
 use Rattle.sender.specs.declared.Sender.{Sender}
-use Rattle.sender.specs.Record.{longestSent, isPending, isInFlight, isWaiting, isAcknowledged, noNumber, noBlock, numberAt}
-use Rattle.sender.specs.Consistent.{zeroNumber, zeroBlock, pendingTests, doneTests, numberFits, carries, blockFits}
+use Rattle.sender.specs.Record.{isPending, noNumber, noBlock, numberAt}
+use Rattle.sender.specs.Consistent.{zeroNumber, zeroBlock, pendingTests, doneTests, numberFits, carries, blockTests, blockFits}
 
 -- A zero place is the blank one.
 pub zero-number : (p : NumberPlace) → zeroNumber p ≡ true → p ≡ noNumber
@@ -32,10 +32,11 @@ number-zero p e = ap (λ (x : NumberPlace). zeroNumber x) e
 pub zero-block : (b : BlockPlace) → zeroBlock b ≡ true → b ≡ noBlock
 unfolding zeroBlock
 zero-block b h =
-    let ts : List Bool = eqb (b .state) 0 ∷ eqb (b .length) 0 ∷ [] in
+    let ts : List Bool = eqb (b .state) 0 ∷ eqb (b .length) 0 ∷ eqb (b .sends) 0 ∷ [] in
     let k = eqb-true (b .state) 0 (every-at ts h 0) in
     let l = eqb-true (b .length) 0 (every-at ts h 1) in
-    λ i. record { state = k i; length = l i }
+    let m = eqb-true (b .sends) 0 (every-at ts h 2) in
+    λ i. record { state = k i; sends = m i; length = l i }
 
 pub block-zero : (b : BlockPlace) → b ≡ noBlock → zeroBlock b ≡ true
 unfolding zeroBlock every
@@ -58,14 +59,11 @@ module _ (p : NumberPlace) (fly : Bool) (n next firstchannel channellow channeln
   unfolding numberFits
   number-done l t = rw (lt-leb next n l, t) refl
 
-abbrev pub heldTests : BlockPlace → Bool → List Bool
-heldTests b single = leb (b .length) longestSent ∷ cond (isInFlight b) single (cond (isWaiting b) true (isAcknowledged b)) ∷ []
-
 pub block-past : (b : BlockPlace) (single : Bool) (c channelnext : ℕ) → channelnext ≤ c → blockFits b single c channelnext ≡ zeroBlock b
 unfolding blockFits
 block-past b single c channelnext l = rw (le-leb channelnext c l) refl
 
-pub block-held : (b : BlockPlace) (single : Bool) (c channelnext : ℕ) → c < channelnext → blockFits b single c channelnext ≡ every (heldTests b single)
+pub block-held : (b : BlockPlace) (single : Bool) (c channelnext : ℕ) → c < channelnext → blockFits b single c channelnext ≡ every (blockTests b single)
 unfolding blockFits
 block-held b single c channelnext l = rw (lt-leb channelnext c l) refl
 

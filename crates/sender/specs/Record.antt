@@ -1,5 +1,6 @@
 -- The sender's record, over a window of w: "32 places for data numbers from low up to next (pending, received or lost; channel number; tick sent) and 32 for
--- blocks from channel low up to channel next (in flight, waiting or acknowledged; length)." And the peer's LogWindowSize (document 02, W5).
+-- blocks from channel low up to channel next (in flight, waiting or acknowledged; length)." And the peer's LogWindowSize (document 02, W5), and in each block's place
+-- "how often it was sent, 1 for the first" (W11).
 use Prim.Native.Nat.{ℕ}
 use mathlib.Core.Bool.{Bool, cond, true}
 use mathlib.Core.List.{List}
@@ -24,6 +25,10 @@ openingLogWindow = 5
 -- "over 1,223 bytes given to the new-block call": the longest block that is sent
 abbrev pub longestSent : ℕ
 longestSent = 1223
+
+-- document 02, W11: "any but 1 to 6 is inconsistent"
+abbrev pub mostSends : ℕ
+mostSends = 6
 
 -- a record and the store that is lent with it
 pub record State : Type 0 where
@@ -71,12 +76,16 @@ isWaiting b = eqb (b .state) waiting
 abbrev pub isAcknowledged : BlockPlace → Bool
 isAcknowledged b = eqb (b .state) acknowledged
 
+-- "a block that stands at 6"
+abbrev pub isSpent : BlockPlace → Bool
+isSpent b = eqb (b .sends) mostSends
+
 -- the zero places
 abbrev pub noNumber : NumberPlace
 noNumber = record { state = 0; channel = record { 0 = 0 }; tick = 0 }
 
 abbrev pub noBlock : BlockPlace
-noBlock = record { state = 0; length = 0 }
+noBlock = record { state = 0; sends = 0; length = 0 }
 
 -- "Both lows stand at the first pending number and first unacknowledged block, or at next": what low and channel low pass
 abbrev pub numberPasses : NumberPlace → Bool

@@ -13,7 +13,7 @@ use Rattle.wire.specs.declared.Values.{Values}
 use Rattle.wire.specs.Layout.{logWindow, noAck, noDelay, noVector}
 use Rattle.wire.specs.Write.{datagramOf}
 use Rattle.sender.specs.declared.Sender.{Sender}
-use Rattle.sender.specs.Record.{longestSent, State, pending, inFlight, isWaiting, blockAt, contents}
+use Rattle.sender.specs.Record.{longestSent, State, pending, inFlight, isWaiting, isSpent, blockAt, contents}
 use Rattle.sender.specs.Consistent.{soundOf}
 
 -- the values of a data packet with this low and this data number that carries block c; "The endpoint writes LogWindowSize 5"
@@ -37,9 +37,9 @@ dataBytes low next c block = datagramOf (dataValues low next c) [] [] block
 abbrev pub dataDatagram : Sender → ℕ → List ℕ → List ℕ
 dataDatagram s c block = dataBytes (s .low .0) (s .next .0) c block
 
--- the next data number carries block c, of so many bytes, from this tick on: pending, and the block in flight
-abbrev pub sentOf : ℕ → Sender → ℕ → ℕ → ℕ → ℕ → Sender
-sentOf w s tick c length channelnext =
+-- the next data number carries block c, of so many bytes, from this tick on: pending, and the block in flight, sent so many times with this one
+abbrev pub sentOf : ℕ → Sender → ℕ → ℕ → ℕ → ℕ → ℕ → Sender
+sentOf w s tick c length sends channelnext =
     record {
       firstdata = s .firstdata;
       firstchannel = s .firstchannel;
@@ -50,7 +50,7 @@ sentOf w s tick c length channelnext =
       channellow = s .channellow;
       channelnext = record { 0 = channelnext };
       numbers = set (s .numbers) (s .next .0 % w) (record { state = pending; channel = record { 0 = c }; tick = tick });
-      blocks = set (s .blocks) (c % w) (record { state = inFlight; length = length });
+      blocks = set (s .blocks) (c % w) (record { state = inFlight; sends = sends; length = length });
     }
 
 -- document 02, W5: "the smaller of 32 and 2 to that power", for the LogWindowSize that the sender remembers
@@ -87,7 +87,7 @@ unfoldable pub newOf : ℕ → ℕ → State → ℕ → List ℕ → ℕ → St
 newOf w cap s tick block room =
     cond (eqb (newAnswer w cap s block room) 0)
     (record {
-      sender = sentOf w (s .sender) tick (s .sender .channelnext .0) (length block) (s .sender .channelnext .0 + 1);
+      sender = sentOf w (s .sender) tick (s .sender .channelnext .0) (length block) 1 (s .sender .channelnext .0 + 1);
       store = putOf (s .store) (storePlace w (s .sender .channelnext .0)) block;
     })
     s
@@ -104,6 +104,14 @@ abbrev pub isNone : Option ℕ → Bool
 isNone none = true
 isNone (some c) = false
 
+-- document 02, W11: "22 for the block at its limit"; it is the waiting one of lowest channel number, and no other is looked at
+abbrev pub isSpentAt : ℕ → Sender → Option ℕ → Bool
+isSpentAt w s none = false
+isSpentAt w s (some c) = isSpent (blockAt w s c)
+
+unfoldable pub lowestSpent : ℕ → Sender → Bool
+lowestSpent w s = isSpentAt w s (lowestWaiting w s)
+
 -- the datagram of a resend: the block from the store, under a new data number
 abbrev pub resendDatagramFor : ℕ → State → Option ℕ → List ℕ
 resendDatagramFor w s none = []
@@ -112,11 +120,12 @@ resendDatagramFor w s (some c) = dataDatagram (s .sender) c (contents w s c)
 unfoldable pub resendDatagram : ℕ → State → List ℕ
 resendDatagram w s = resendDatagramFor w s (lowestWaiting w (s .sender))
 
--- "Resend: .. 11 if none waits; 9 and 12 look at data numbers only." "Resend: 13, 11, 12, 9, 14"
+-- "Resend: .. 11 if none waits; 9 and 12 look at data numbers only." "Resend: 13, 11, 12, 9, 14", and 22 "after 11 and before 12" (document 02, W11)
 abbrev pub resendTests : ℕ → ℕ → State → ℕ → List Test
 resendTests w cap s room =
     test (not (soundOf w cap (s .sender) (length (s .store)))) 13
     ∷ test (isNone (lowestWaiting w (s .sender))) 11
+    ∷ test (lowestSpent w (s .sender)) 22
     ∷ test (ltb highest (s .sender .next .0)) 12
     ∷ test (numbersFull w (s .sender)) 9
     ∷ test (ltb room (length (resendDatagram w s))) 14
@@ -127,7 +136,7 @@ resendAnswer w cap s room = first (resendTests w cap s room)
 
 abbrev pub resentFor : ℕ → Sender → ℕ → Option ℕ → Sender
 resentFor w s tick none = s
-resentFor w s tick (some c) = sentOf w s tick c (blockAt w s c .length) (s .channelnext .0)
+resentFor w s tick (some c) = sentOf w s tick c (blockAt w s c .length) (blockAt w s c .sends + 1) (s .channelnext .0)
 
 unfoldable pub resendOf : ℕ → ℕ → State → ℕ → ℕ → Sender
 resendOf w cap s tick room =

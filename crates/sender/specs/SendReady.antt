@@ -9,7 +9,7 @@ use native.Mathlib.Nat.{min-le-left, mod-lt, mul-le-mul-right, suc-mul}
 use native.Mathlib.Omega.{arith}
 use lib.Dec.{eqb}
 use lib.ListN.{length}
-use borrow.Author.Tests.{eqb-true, ltb-false, leb-false, le-leb, not-false}
+use borrow.Author.Tests.{eqb-true, eqb-false, ltb-false, leb-false, le-leb, not-false}
 use Rattle.common.specs.EveryLaws.{every-all}
 use Rattle.common.specs.Order.{first-pass}
 use Rattle.common.specs.Facts.{lt-or-ge, bool, clash}
@@ -17,9 +17,9 @@ use Rattle.numbers.specs.Full.{highest}
 use Rattle.window.specs.Store.{placeSize, storeSize, storePlace, soundWith}
 use Rattle.sender.specs.declared.BlockPlace.{BlockPlace}
 use Rattle.sender.specs.declared.Sender.{Sender}
-use Rattle.sender.specs.Record.{longestSent, State, isWaiting, isInFlight, inFlight, waiting, blockAt}
+use Rattle.sender.specs.Record.{longestSent, mostSends, State, isWaiting, isSpent, isInFlight, inFlight, waiting, blockAt}
 use Rattle.sender.specs.Consistent.{consistentOf, soundOf}
-use Rattle.sender.specs.Send.{limitOf, atLimitOf, numbersFull, newAnswer, waitingFrom, lowestWaiting, isNone, resendAnswer}
+use Rattle.sender.specs.Send.{limitOf, atLimitOf, numbersFull, newAnswer, waitingFrom, lowestWaiting, isNone, isSpentAt, lowestSpent, resendAnswer}
 use Rattle.sender.specs.Facts.{Facts}
 use Rattle.sender.specs.SentFacts.{Ready}
 
@@ -76,10 +76,12 @@ new-accepted w cap s block room h =
     }
 
 pub new-ready : (w cap : ℕ) (s : State) (block : List ℕ) → Facts w cap (s .sender) → New w cap s block
-    → Ready w (s .sender) (s .sender .channelnext .0) (length block) (s .sender .channelnext .0 + 1)
+    → Ready w (s .sender) (s .sender .channelnext .0) (length block) 1 (s .sender .channelnext .0 + 1)
 new-ready w cap s block f k =
     record {
       short = k .short;
+      begun = omega arith;
+      few = omega arith;
       left = k .left;
       room = k .room;
       least = f .bounds .channelnext;
@@ -124,6 +126,7 @@ waiting-found w s (suc k) c d h =
 pub record Again (w cap : ℕ) (s : State) : Type 0 where
   pub sound : soundOf w cap (s .sender) (length (s .store)) ≡ true
   pub found : isNone (lowestWaiting w (s .sender)) ≡ false
+  pub unspent : lowestSpent w (s .sender) ≡ false
   pub left : s .sender .next .0 ≤ highest
   pub room : s .sender .next .0 < s .sender .low .0 + w
 
@@ -134,17 +137,26 @@ resend-accepted w cap s room h =
     let (t2, r2) = first-pass _ _ _ (omega arith) r1 in
     let (t3, r3) = first-pass _ _ _ (omega arith) r2 in
     let (t4, r4) = first-pass _ _ _ (omega arith) r3 in
-    record { sound = not-false _ t1; found = t2; left = ltb-false _ _ t3; room = room-under w (s .sender) t4 }
+    let (t5, r5) = first-pass _ _ _ (omega arith) r4 in
+    record { sound = not-false _ t1; found = t2; unspent = t3; left = ltb-false _ _ t4; room = room-under w (s .sender) t5 }
+
+-- Whether the lowest waiting block stands at its limit is said by its place.
+pub spent-is : (w : ℕ) (s : Sender) (c : ℕ) → lowestWaiting w s ≡ some c → lowestSpent w s ≡ isSpent (blockAt w s c)
+unfolding lowestSpent
+spent-is w s c e = ap (isSpentAt w s) e
 
 pub resend-ready : (w cap : ℕ) (s : State) (c : ℕ) → Facts w cap (s .sender) → Again w cap s → lowestWaiting w (s .sender) ≡ some c
-    → Ready w (s .sender) c (blockAt w (s .sender) c .length) (s .sender .channelnext .0)
+    → Ready w (s .sender) c (blockAt w (s .sender) c .length) (blockAt w (s .sender) c .sends + 1) (s .sender .channelnext .0)
 unfolding lowestWaiting
 resend-ready w cap s c f k e =
     let o = f .bounds in
     let j = waiting-found w (s .sender) (s .sender .channelnext .0 - s .sender .channellow .0) (s .sender .channellow .0) c e in
     let lt : c < s .sender .channelnext .0 = omega (arith, j .most, o .channelnext) in
+    let ne = eqb-false (blockAt w (s .sender) c .sends) mostSends (sym (spent-is w (s .sender) c e) ∙ k .unspent) in
     record {
       short = f .short c (j .least) lt;
+      begun = omega arith;
+      few = ⊎-elim (λ x. omega arith) (λ x. absurd (ne (omega (arith, f .few c (j .least) lt)))) (lt-or-ge (blockAt w (s .sender) c .sends) mostSends);
       left = k .left;
       room = k .room;
       least = j .least;

@@ -18,7 +18,7 @@ abbrev pub inState : NumberPlace → ℕ → NumberPlace
 inState p k = record { state = k; channel = p .channel; tick = p .tick }
 
 abbrev pub blockInState : BlockPlace → ℕ → BlockPlace
-blockInState b k = record { state = k; length = b .length }
+blockInState b k = record { state = k; sends = b .sends; length = b .length }
 
 -- number n turns, and its block
 abbrev pub turnedAt : ℕ → Turn → Sender → ℕ → Sender

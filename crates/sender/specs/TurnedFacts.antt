@@ -15,7 +15,7 @@ use Rattle.sender.specs.Record.{pending, inFlight, isPending, isInFlight
 use Rattle.sender.specs.Consistent.{consistentOf}
 use Rattle.sender.specs.Turn.{Turn, turnedOf}
 use Rattle.sender.specs.Facts.{Bounds, Out, Done, Carrier, Facts, number-shape, block-shape, consistent-facts, facts-consistent}
-use Rattle.sender.specs.TurnedWants.{Ending, turnNumber, turn-not, turn-unchosen, turn-chosen, turn-channel, turnBlock, block-unchosen, block-chosen, block-length, block-flies, resting, block-rests, blockChosen, chosen-from, not-chosen, wantNumber, wantBlock, want-number, want-number-off, want-block, want-block-off}
+use Rattle.sender.specs.TurnedWants.{Ending, turnNumber, turn-not, turn-unchosen, turn-chosen, turn-channel, turnBlock, block-unchosen, block-chosen, block-length, block-sends, block-flies, resting, block-rests, blockChosen, chosen-from, not-chosen, wantNumber, wantBlock, want-number, want-number-off, want-block, want-block-off}
 use Rattle.sender.specs.Remembering.{turned-window}
 use Rattle.sender.specs.Turned.{Turning, Turned, pending-before, pending-after, block-after, turned-is, turned-only, turned-none, nothing}
 
@@ -42,13 +42,13 @@ module _ {w cap : ℕ} {t : Turn} {s : Sender} (e : Ending t) (f : Facts w cap s
     abbrev b : Turning w cap t s chosen q
     b = a .turning
 
-    low-from : s .low .0 ≤ q .low .0
+    pub low-from : s .low .0 ≤ q .low .0
     low-from = b .numbers .from
 
     low-most : q .low .0 ≤ s .next .0
     low-most = base-high (number-shape (f .some) (f .fits)) (b .numbers) (s .next .0) (f .bounds .next) (number-past chosen (s .next .0) (omega arith))
 
-    channel-from : s .channellow .0 ≤ q .channellow .0
+    pub channel-from : s .channellow .0 ≤ q .channellow .0
     channel-from = b .blocks .from
 
     channel-most : q .channellow .0 ≤ s .channelnext .0
@@ -56,13 +56,17 @@ module _ {w cap : ℕ} {t : Turn} {s : Sender} (e : Ending t) (f : Facts w cap s
         base-high (block-shape (f .some) (f .fits)) (b .blocks) (s .channelnext .0) (f .bounds .channelnext) (block-past chosen (s .channelnext .0) (omega arith))
 
     -- The places in range.
-    number-held : (n : ℕ) → q .low .0 ≤ n → n < s .next .0 → numberAt w q n ≡ turnNumber t (chosen n) (numberAt w s n)
+    pub number-held : (n : ℕ) → q .low .0 ≤ n → n < s .next .0 → numberAt w q n ≡ turnNumber t (chosen n) (numberAt w s n)
     number-held n l u =
         b .numbers .holds n l (omega (arith, low-from, f .bounds .room)) ∙ want-number w t s chosen n (omega (arith, f .bounds .room))
 
-    block-held : (c : ℕ) → q .channellow .0 ≤ c → c < s .channelnext .0 → blockAt w q c ≡ turnBlock t (blockChosen w s chosen c) (blockAt w s c)
+    pub block-held : (c : ℕ) → q .channellow .0 ≤ c → c < s .channelnext .0 → blockAt w q c ≡ turnBlock t (blockChosen w s chosen c) (blockAt w s c)
     block-held c l u =
         b .blocks .holds c l (omega (arith, channel-from, f .bounds .channelroom)) ∙ want-block w t s chosen c (omega (arith, f .bounds .channelroom))
+
+    -- How often a block was sent does not move.
+    pub sends-held : (c : ℕ) → q .channellow .0 ≤ c → c < s .channelnext .0 → blockAt w q c .sends ≡ blockAt w s c .sends
+    sends-held c l u = ap (λ (z : BlockPlace). z .sends) (block-held c l u) ∙ block-sends t _ (blockAt w s c)
 
     -- A number that was pending has turned exactly if it was chosen: low has passed it, or its place says so.
     pub turned-exactly : (n : ℕ) → s .low .0 ≤ n → n < s .next .0 → isPending (numberAt w s n) ≡ true
@@ -223,6 +227,8 @@ module _ {w cap : ℕ} {t : Turn} {s : Sender} (e : Ending t) (f : Facts w cap s
               let v : c < s .channelnext .0 = omega (arith, b .channelnext) in
               let k = ap (λ (z : BlockPlace). z .length) (block-held c l v) ∙ block-length t _ (blockAt w s c) in
               omega (arith, k, f .short c (omega (arith, channel-from)) v);
+          begun = λ c l u. let v : c < s .channelnext .0 = omega (arith, b .channelnext) in omega (arith, sends-held c l v, f .begun c (omega (arith, channel-from)) v);
+          few = λ c l u. let v : c < s .channelnext .0 = omega (arith, b .channelnext) in omega (arith, sends-held c l v, f .few c (omega (arith, channel-from)) v);
           rests = λ c l u h. rests-kept c l (omega (arith, b .channelnext)) h;
           vacant = λ c l u. b .blocks .holds c (omega (arith, b .channelnext, channel-most)) u ∙ block-past chosen c (omega (arith, b .channelnext));
           single = λ c l u h. carrier-kept c l (omega (arith, b .channelnext)) h;

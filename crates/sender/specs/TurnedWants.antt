@@ -91,6 +91,11 @@ unfolding turnBlock
 block-length t true b = refl
 block-length t false b = refl
 
+pub block-sends : (t : Turn) (x : Bool) (b : BlockPlace) → turnBlock t x b .sends ≡ b .sends
+unfolding turnBlock
+block-sends t true b = refl
+block-sends t false b = refl
+
 pub block-flies : {t : Turn} → Ending t → (x : Bool) (b : BlockPlace) → isInFlight (turnBlock t x b) ≡ true → (isInFlight b ≡ true) × (x ≡ false)
 unfolding turnBlock
 block-flies {t} e true b h = clash (isInFlight (turnBlock t true b)) h (e .lands)

@@ -13,6 +13,9 @@ use numbers::DataNumber;
 // The longest block that is sent.
 pub const LONGEST_BLOCK: usize = 1223;
 
+// How often a block is sent at most.
+pub const MOST_SENDS: u8 = 6;
+
 // The shortest and the longest loss timeout, in milliseconds.
 pub const SHORTEST_TIMEOUT: u32 = 300;
 
@@ -53,11 +56,13 @@ pub struct NumberPlace {
     pub state: u8,
 }
 
-// A place for a block.
+// A place for a block. The two bytes stand together, so that a place has four bytes.
 #[repr(C)]
 pub struct BlockPlace {
     // Vacant, in flight, waiting or acknowledged.
     pub state: u8,
+    // How often the block was sent, 1 for the first.
+    pub sends: u8,
     // The block's length.
     pub length: u16,
 }
@@ -109,6 +114,7 @@ pub fn opened(firstdata: u16, firstchannel: u16, timeout: u32) -> Sender
         }; 32],
         blocks: [BlockPlace {
             state: VACANT,
+            sends: 0,
             length: 0,
         }; 32],
     }

@@ -16,7 +16,7 @@ use Rattle.window.specs.Places.{place-same, always}
 use Rattle.sender.specs.declared.NumberPlace.{NumberPlace}
 use Rattle.sender.specs.declared.BlockPlace.{BlockPlace}
 use Rattle.sender.specs.declared.Sender.{Sender}
-use Rattle.sender.specs.Record.{longestSent, isPending, isInFlight, numberAt, blockAt}
+use Rattle.sender.specs.Record.{longestSent, mostSends, isPending, isInFlight, numberAt, blockAt}
 use Rattle.sender.specs.Consistent.{pendingTests, numberFits, blockFits, carries, oneCarrier, numberOk, blockOk}
 use Rattle.sender_checking.specs.Checking.{Marked}
 use Rattle.sender.specs.PlaceTests.{zero-number, number-past, number-pending}
@@ -119,7 +119,7 @@ mark-pending w s marks i r ok h e was =
 single-fails : (b : BlockPlace) (single : Bool) (c channelnext : ℕ) → c < channelnext → isInFlight b ≡ true → single ≡ false → blockFits b single c channelnext ≡ false
 unfolding blockFits
 single-fails b single c channelnext l fl e =
-    rw (lt-leb _ _ l, fl, e) (not-so _ (λ h. clash false (every-at (leb (b .length) longestSent ∷ false ∷ []) h 1) refl))
+    rw (lt-leb _ _ l, fl, e) (not-so _ (λ h. clash false (every-at (leb (b .length) longestSent ∷ leb 1 (b .sends) ∷ leb (b .sends) mostSends ∷ false ∷ []) h 3) refl))
 
 -- A second pending number for one block: that block does not fit.
 pub mark-twice : (w : ℕ) (s : Sender) (marks : List Bool) (i : ℕ) → i < w → Range w (s .firstchannel .0) (s .channellow .0) (s .channelnext .0) → numberOk w s i ≡ true → Marked w s marks i

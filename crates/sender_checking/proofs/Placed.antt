@@ -17,7 +17,7 @@ use Rattle.window.specs.EachPlace.{countOf, all-placed, past-from}
 use Rattle.sender.specs.declared.NumberPlace.{NumberPlace}
 use Rattle.sender.specs.declared.BlockPlace.{BlockPlace}
 use Rattle.sender.specs.declared.Sender.{Sender}
-use Rattle.sender.specs.Record.{longestSent, isPending, isAcknowledged, numberPasses, noNumber, noBlock, numberAt, blockAt}
+use Rattle.sender.specs.Record.{longestSent, mostSends, isPending, isAcknowledged, numberPasses, noNumber, noBlock, numberAt, blockAt}
 use Rattle.sender.specs.Consistent.{zeroNumber, zeroBlock, blockFits, carries, numberOk, blockOk, consistentOf}
 use Rattle.sender_checking.specs.Checking.{numberPlaced, blockPlaced, Marked, Walked}
 use Rattle.sender.specs.PlaceTests.{zero-number, number-past}
@@ -52,23 +52,28 @@ state-wrong (suc (suc (suc (suc n)))) single = rw (far 0 (omega arith), lt-ltb 3
     far k l = ne-eqb _ k (λ e. omega arith)
 
 pub block-wrong-is : (b : BlockPlace) (single : Bool) (past count : ℕ)
-    → ((leb count past && (not (eqb (b .state) 0) || not (eqb (b .length) 0)))
-    || (not (leb count past) && (ltb longestSent (b .length) || ((eqb (b .state) 0 || ltb 3 (b .state)) || (eqb (b .state) 1 && not single))))) ≡ not (blockFits b single past count)
+    → ((leb count past && ((not (eqb (b .state) 0) || not (eqb (b .length) 0)) || not (eqb (b .sends) 0)))
+    || (not (leb count past)
+    && ((ltb longestSent (b .length) || (ltb (b .sends) 1 || ltb mostSends (b .sends))) || ((eqb (b .state) 0 || ltb 3 (b .state)) || (eqb (b .state) 1 && not single)))))
+    ≡ not (blockFits b single past count)
 unfolding blockFits zeroBlock every
 block-wrong-is b single past count =
-    rw (ltb-not longestSent (b .length), state-wrong (b .state) single)
-    (go (leb count past) (eqb (b .state) 0) (eqb (b .length) 0) (leb (b .length) longestSent)
+    rw (ltb-not longestSent (b .length), ltb-not (b .sends) 1, ltb-not mostSends (b .sends), state-wrong (b .state) single)
+    (go (leb count past) (eqb (b .state) 0) (eqb (b .length) 0) (eqb (b .sends) 0) (leb (b .length) longestSent) (leb 1 (b .sends)) (leb (b .sends) mostSends)
     (cond (eqb (b .state) 1) single (cond (eqb (b .state) 2) true (eqb (b .state) 3))))
   where
-    go : (outside vacant none short state : Bool)
-        → ((outside && (not vacant || not none)) || (not outside && (not short || not state)))
-        ≡ not (cond outside (cond vacant (cond none true false) false) (cond short (cond state true false) false))
-    go true true true short state = refl
-    go true true false short state = refl
-    go true false none short state = refl
-    go false vacant none true true = refl
-    go false vacant none true false = refl
-    go false vacant none false state = refl
+    go : (outside vacant none never short begun few state : Bool)
+        → ((outside && ((not vacant || not none) || not never)) || (not outside && ((not short || (not begun || not few)) || not state)))
+        ≡ not (cond outside (cond vacant (cond none (cond never true false) false) false) (cond short (cond begun (cond few (cond state true false) false) false) false))
+    go true true true true short begun few state = refl
+    go true true true false short begun few state = refl
+    go true true false never short begun few state = refl
+    go true false none never short begun few state = refl
+    go false vacant none never true true true true = refl
+    go false vacant none never true true true false = refl
+    go false vacant none never true true false state = refl
+    go false vacant none never true false few state = refl
+    go false vacant none never false begun few state = refl
 
 -- THE PLACES, in their own order
 

@@ -93,7 +93,9 @@ fn block_wrong(b: BlockPlace, single: bool, past: u8, count: u8) -> bool
     let unfit = vacant
         | (sender::ACKNOWLEDGED < b.state)
         | ((b.state == sender::INFLIGHT) & !single);
-    (outside & (!vacant | (b.length != 0))) | (!outside & ((LONGEST_SENT < b.length) | unfit))
+    let uncounted = (b.sends < 1) | (sender::MOST_SENDS < b.sends);
+    (outside & (!vacant | (b.length != 0) | (b.sends != 0)))
+        | (!outside & ((LONGEST_SENT < b.length) | uncounted | unfit))
 }
 
 // Does low stand on a number that it should have passed, or is one of the places from next on not zero? No branch leaves the

@@ -1,7 +1,7 @@
 // Runs the sender by a script, on both sides of its boundaries, and shows one line for each call: its name, the answer, the record as the call
 // left it, and the sum of the store where the call was lent it. The calls are `open`, `record` (a record with these numbers, and nothing sent),
-// `new` (a new block), `many` (so many new blocks of one byte, in one line), `again` (a resend), `in` (a packet with these values arrives) and
-// `sweep`.
+// `waiting` (the same, with blocks 0 and 1 waiting), `new` (a new block), `many` (so many new blocks of one byte, in one line), `again` (a
+// resend), `in` (a packet with these values arrives) and `sweep`.
 use numbers::ChannelNumber;
 use numbers::DataNumber;
 use sender::BlockPlace;
@@ -28,9 +28,33 @@ fn stands(line: &[u8]) -> Sender {
         }; 32],
         blocks: [BlockPlace {
             state: 0,
+            sends: 0,
             length: 0,
         }; 32],
     }
+}
+
+// A block's place.
+fn placed(state: u8, sends: u8, length: u16) -> BlockPlace {
+    BlockPlace {
+        state,
+        sends,
+        length,
+    }
+}
+
+// A record with these numbers in which blocks 0 and 1 wait, of one byte each: block 0 was sent so many times, block 1 once. The place
+// behind them is not in use, and has this count.
+fn waiting(line: &[u8]) -> Sender {
+    let mut s = stands(line);
+    let low = ChannelNumber(0);
+    let next = ChannelNumber(2);
+    s.channellow = low;
+    s.channelnext = next;
+    s.blocks[0] = placed(2, script_packets::byte(line, b"sends="), 1);
+    s.blocks[1] = placed(2, 1, 1);
+    s.blocks[2] = placed(0, script_packets::byte(line, b"unused="), 0);
+    s
 }
 
 // A fresh record.
@@ -173,6 +197,9 @@ fn run(s: Sender, store: &mut [u8], line: &[u8]) -> Sender {
     if call == b'r' {
         return shown(stands(line));
     }
+    if call == b'w' {
+        return shown(waiting(line));
+    }
     if call == b'n' {
         return sends(s, store, line);
     }
@@ -201,7 +228,7 @@ fn runs(text: &[u8], store: &mut [u8]) {
 
 fn main() {
     let mut store = [0x55u8; 39201];
-    let mut text = [0u8; 16384];
+    let mut text = [0u8; 24576];
     let n = io::read_full(0, &mut text);
     runs(&text[..n], &mut store);
 }

@@ -109,7 +109,7 @@ module _ (w : ℕ) where
       → x ≡ writtenOf (roomAnswer (newDatagram s block) (length out)) (newDatagram s block)
       → left ≡ leftOf (roomAnswer (newDatagram s block) (length out)) (newDatagram s block) out
       → at ≡ s .sender .channelnext .0 % w → store ≡ putOf (s .store) (at * placeSize) block
-      → q ≡ sentOf w (s .sender) tick (s .sender .channelnext .0) (length block) (s .sender .channelnext .0 + 1) → Left s tick block out (Wrote k) q store left
+      → q ≡ sentOf w (s .sender) tick (s .sender .channelnext .0) (length block) 1 (s .sender .channelnext .0 + 1) → Left s tick block out (Wrote k) q store left
   unfolding newOf
   new-sent s tick block out left store x k at q o is said g p b r =
       let a = open-room s block (length out) o in

@@ -96,6 +96,7 @@ pub fn send(s: Sender, store: &mut [u8], tick: u32, block: &[u8], out: &mut [u8]
                 tick,
                 channel,
                 block.len() as u16,
+                1,
                 ChannelNumber(channel.0 + 1),
             );
             Outcome {

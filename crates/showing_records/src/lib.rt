@@ -79,12 +79,13 @@ fn numbers(s: Sender) {
     }
 }
 
-// A block's place: its state and its length.
-fn block(i: usize, state: u8, length: u16) {
-    if state as u64 + length as u64 != 0 {
+// A block's place: its state, its length and how often it was sent.
+fn block(i: usize, state: u8, length: u16, sends: u8) {
+    if state as u64 + length as u64 + sends as u64 != 0 {
         showing::number(b" block", i as u64);
         showing::number(b"=", state as u64);
         showing::number(b",", length as u64);
+        showing::number(b",", sends as u64);
     }
 }
 
@@ -93,7 +94,7 @@ fn blocks(s: Sender) {
     let mut i = 0;
     while i < PLACES {
         let b = s.blocks[i];
-        block(i, b.state, b.length);
+        block(i, b.state, b.length, b.sends);
         i += 1;
     }
 }

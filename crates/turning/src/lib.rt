@@ -49,6 +49,7 @@ pub fn turn(s: Sender, flags: [bool; 32], upto: u64, number: u8, block: u8) -> S
             };
             q.blocks[blockat] = BlockPlace {
                 state: block,
+                sends: b.sends,
                 length: b.length,
             };
         }
@@ -79,6 +80,7 @@ pub fn turn(s: Sender, flags: [bool; 32], upto: u64, number: u8, block: u8) -> S
         }
         q.blocks[at] = BlockPlace {
             state: sender::VACANT,
+            sends: 0,
             length: 0,
         };
         let after = ChannelNumber(q.channellow.0 + 1);

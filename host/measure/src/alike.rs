@@ -20,7 +20,11 @@ pub fn sender(s: &Sender) -> ours::Sender {
             tick: n.tick,
             state: n.state as u8,
         }),
-        blocks: s.blocks.map(|b| ours::BlockPlace { state: b.state as u8, length: b.len }),
+        blocks: s.blocks.map(|b| ours::BlockPlace {
+            state: b.state as u8,
+            sends: b.sends,
+            length: b.len,
+        }),
     }
 }
 

@@ -22,7 +22,7 @@ pub fn sender(rule: &mut Rule, most: u64) -> Sender {
         if now == range && turn >= turns {
             break;
         }
-        // Of a refusal (a window is full, nothing waits) nothing is made.
+        // Of a refusal (a window is full, nothing waits, a block was sent six times) nothing is made.
         if now < range && !rule.one_in(4) {
             if rule.one_in(3) && s.resend::<false>(&store, tick, &mut out).is_ok() {
                 continue;

@@ -17,6 +17,7 @@ pub struct NumberPlace {
 #[derive(Clone, Copy, PartialEq, Eq, Debug, Default)]
 pub struct BlockPlace {
     pub state: u8,
+    pub sends: u8,
     pub length: u16,
 }
 

@@ -161,7 +161,8 @@ impl Start {
         Start::new(made::sender(rule, most), made::receiver(rule, least))
     }
 
-    /// The same with one field changed: mostly no longer consistent. Another LogWindowSize leaves it consistent.
+    /// The same with one field changed: mostly no longer consistent. Another LogWindowSize leaves it consistent, and so may
+    /// another count of sends.
     pub fn spoilt(&self, rule: &mut Rule) -> Start {
         let Start { sender: mut s, receiver: mut r, .. } = *self;
         let at = rule.below(32) as usize;
@@ -172,7 +173,7 @@ impl Start {
             _ => (s.low + rule.below(80)).saturating_sub(40),
         };
         let near = |n: u64, rule: &mut Rule| (n + rule.below(7)).saturating_sub(3);
-        match rule.below(26) {
+        match rule.below(27) {
             0 => s.first_data = number,
             1 => s.first_channel = number,
             2 => s.timeout = [0, 299, 60_001, u32::MAX][at % 4],
@@ -198,6 +199,7 @@ impl Start {
             22 => r.due = (1 << 32) - rule.below(40),
             23 => s.log_window = rule.below(6) as u8,
             24 => s.log_window = rule.next() as u8,
+            25 => s.blocks[at].sends = rule.below(9) as u8,
             _ => r.end = number,
         }
         Start::new(s, r)

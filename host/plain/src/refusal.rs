@@ -16,6 +16,7 @@ pub const USED_UP: u8 = 12;
 pub const INCONSISTENT: u8 = 13;
 pub const OUTPUT: u8 = 14;
 pub const OPENING: u8 = 15;
+pub const SENT_OUT: u8 = 22;
 
 /// Turns the result of a call without a value into its number.
 pub(crate) fn answer(result: Result<(), u8>) -> u8 {

@@ -7,6 +7,8 @@ use crate::wire;
 
 /// The longest block that is sent.
 pub const BLOCK_MOST: usize = 1_223;
+/// How often a block is sent at most.
+pub const SENDS_MOST: u8 = 6;
 /// The shortest and longest loss timeout in milliseconds.
 pub const TIMEOUT_LEAST: u32 = 300;
 pub const TIMEOUT_MOST: u32 = 60_000;
@@ -39,10 +41,11 @@ pub struct NumberPlace {
     pub tick: u32,
 }
 
-/// What is known of one block.
+/// What is known of one block: its length, and how often it was sent.
 #[derive(Clone, Copy, PartialEq, Eq, Debug, Default)]
 pub struct BlockPlace {
     pub state: BlockState,
+    pub sends: u8,
     pub len: u16,
 }
 
@@ -122,10 +125,11 @@ impl Sender {
             let block = &self.blocks[place(c)];
             let in_range = c < self.channel_next;
             let is_flying = block.state == BlockState::InFlight;
+            let is_counted = in_range && (1..=SENDS_MOST).contains(&block.sends);
             let fits = match block.state {
-                BlockState::Vacant => !in_range && block.len == 0,
-                BlockState::InFlight | BlockState::Waiting => in_range,
-                BlockState::Acknowledged => in_range && c != self.channel_low,
+                BlockState::Vacant => !in_range && block.len == 0 && block.sends == 0,
+                BlockState::InFlight | BlockState::Waiting => is_counted,
+                BlockState::Acknowledged => is_counted && c != self.channel_low,
             };
             fits && usize::from(block.len) <= BLOCK_MOST
                 && is_flying == (pending & 1 << place(c) != 0)

@@ -11,17 +11,17 @@ data-place-requires c κs = search needs
 channel-place-requires : tie.Need-channel-place-requires
 channel-place-requires c κs = search needs
 
-add-t10 : tie.Need-add-t10
-add-t10 c = search needs
+add-t11 : tie.Need-add-t11
+add-t11 c = search needs
 
-mul-t12 : tie.Need-mul-t12
-mul-t12 c = search needs
+mul-t13 : tie.Need-mul-t13
+mul-t13 c = search needs
 
 element-set-from-q : tie.Need-element-set-from-q
 element-set-from-q c = search needs
 
-mul-t12-2 : tie.Need-mul-t12-2
-mul-t12-2 c = search needs
+mul-t13-2 : tie.Need-mul-t13-2
+mul-t13-2 c = search needs
 
 element-set-from-q-2 : tie.Need-element-set-from-q-2
 element-set-from-q-2 c = search needs
@@ -38,7 +38,7 @@ returns c = let s = c .before .before .before .args .s in
       channellow = s .channellow;
       channelnext = c .before .before .before .args .channelnext;
       numbers = set (s .numbers) (c .before .before .data-place .ensures .0 i) (record { state = 1; channel = c .before .before .before .args .c; tick = c .before .before .before .args .tick });
-      blocks = set (s .blocks) (c .before .channel-place .ensures .0 i) (record { state = 1; length = c .before .before .before .args .length });
+      blocks = set (s .blocks) (c .before .channel-place .ensures .0 i) (record { state = 1; sends = c .before .before .before .args .sends; length = c .before .before .before .args .length });
     }
 
 pub sent-spec : {M : Type 1} → statement M
@@ -47,9 +47,9 @@ sent-spec =
     (tie.spec
     data-place-requires
     channel-place-requires
-    add-t10
-    mul-t12
+    add-t11
+    mul-t13
     element-set-from-q
-    mul-t12-2
+    mul-t13-2
     element-set-from-q-2
     returns)

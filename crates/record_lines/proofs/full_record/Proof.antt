@@ -10,13 +10,13 @@ sender-fields-requires : tie.Need-sender-fields-requires
 sender-fields-requires c κs = search needs
 
 sender-places-requires : tie.Need-sender-places-requires
-sender-places-requires c κs = omega (arith, room-left 9882 (c .before .before .before .before .before .before .pre) (c .before .before .before .sender-fields .ensures))
+sender-places-requires c κs = omega (arith, room-left 10554 (c .before .before .before .before .before .before .pre) (c .before .before .before .sender-fields .ensures))
 
 receiver-fields-requires : tie.Need-receiver-fields-requires
-receiver-fields-requires c κs = omega (arith, room-left 4378 (room-left 9882 (c .before .before .before .before .before .before .before .before .before .before .pre) (c .before .before .before .before .before .before .before .sender-fields .ensures)) (c .before .before .before .sender-places .ensures))
+receiver-fields-requires c κs = omega (arith, room-left 4378 (room-left 10554 (c .before .before .before .before .before .before .before .before .before .before .pre) (c .before .before .before .before .before .before .before .sender-fields .ensures)) (c .before .before .before .sender-places .ensures))
 
 receiver-places-requires : tie.Need-receiver-places-requires
-receiver-places-requires c κs = room-left 4192 (room-left 4378 (room-left 9882 (c .before .before .before .before .before .before .before .before .before .before .before .before .before .before .pre) (c .before .before .before .before .before .before .before .before .before .before .before .sender-fields .ensures)) (c .before .before .before .before .before .before .before .sender-places .ensures)) (c .before .before .before .receiver-fields .ensures)
+receiver-places-requires c κs = room-left 4192 (room-left 4378 (room-left 10554 (c .before .before .before .before .before .before .before .before .before .before .before .before .before .before .pre) (c .before .before .before .before .before .before .before .before .before .before .before .sender-fields .ensures)) (c .before .before .before .before .before .before .before .sender-places .ensures)) (c .before .before .before .receiver-fields .ensures)
 
 returns : tie.Need-returns
 returns c =

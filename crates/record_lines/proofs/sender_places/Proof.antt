@@ -10,7 +10,7 @@ use Rattle.record_lines.proofs.sender_places.Statement.{statement}
 use Rattle.record_lines.proofs.sender_places.Tie as tie
 
 abbrev Inv-loop : tie.InvT-loop
-Inv-loop out₀ at s to₀ i₀ out to i = (i ≤ 32) × LaidWithin (172 * i) (allPlaces (senderPlace s) i) out₀ at out to
+Inv-loop out₀ at s to₀ i₀ out to i = (i ≤ 32) × LaidWithin (193 * i) (allPlaces (senderPlace s) i) out₀ at out to
 
 abbrev μ-loop : tie.MeasureT-loop
 μ-loop out₀ at s to₀ i₀ out to i = 32 - i
@@ -25,7 +25,7 @@ element-copy-out-p : tie.Need-element-copy-out-p Inv-loop μ-loop
 element-copy-out-p c = search needs
 
 number-line-requires : tie.Need-number-line-requires Inv-loop μ-loop
-number-line-requires c κs = omega (arith, room-left 172 (omega arith) (c .before .before .before .loop .inv .1))
+number-line-requires c κs = omega (arith, room-left 193 (omega arith) (c .before .before .before .loop .inv .1))
 
 mul-b : tie.Need-mul-b Inv-loop μ-loop
 mul-b c = search needs
@@ -35,8 +35,8 @@ element-copy-out-b c = search needs
 
 block-line-requires : tie.Need-block-line-requires Inv-loop μ-loop
 block-line-requires c κs =
-    room-left 75
-    (room-left 172 (omega arith) (c .before .before .before .before .before .before .before .before .loop .inv .1))
+    room-left 96
+    (room-left 193 (omega arith) (c .before .before .before .before .before .before .before .before .loop .inv .1))
     (c .before .before .before .before .number-line .ensures)
 
 add-i : tie.Need-add-i Inv-loop μ-loop

@@ -1,6 +1,6 @@
 //! The sender's calls: sending, resending, being acknowledged, and sweeping for losses.
 
-use super::{BlockPlace, BlockState, NumberPlace, NumberState, Sender, BLOCK_MOST};
+use super::{BlockPlace, BlockState, NumberPlace, NumberState, Sender, BLOCK_MOST, SENDS_MOST};
 use crate::numbers::{age, place, widen_into, PAST, WINDOW};
 use crate::refusal;
 use crate::store::{self, STORE_LEN};
@@ -115,6 +115,9 @@ impl Sender {
         let channel = (self.channel_low..self.channel_next)
             .find(|c| self.blocks[place(*c)].state == BlockState::Waiting)
             .ok_or(refusal::NOTHING)?;
+        if self.blocks[place(channel)].sends == SENDS_MOST {
+            return Err(refusal::SENT_OUT);
+        }
         if self.next == PAST {
             return Err(refusal::USED_UP);
         }
@@ -148,7 +151,9 @@ impl Sender {
 
     /// Notes that a block went out under the next data number.
     fn launch(&mut self, channel: u64, tick: u32) {
-        self.blocks[place(channel)].state = BlockState::InFlight;
+        let block = &mut self.blocks[place(channel)];
+        block.state = BlockState::InFlight;
+        block.sends += 1;
         self.numbers[place(self.next)] = NumberPlace { state: NumberState::Pending, channel, tick };
         self.next += 1;
     }

@@ -256,6 +256,42 @@ fn what_is_refused_gives_no_window() {
     assert_eq!((node.receive(&dummy), node.s.log_window), (0, 5));
 }
 
+/// Loses whatever is out at each tick and sends the lowest waiting block again, so many times.
+fn resend_all(node: &mut Node, times: u32) {
+    for turn in 1..=times {
+        assert!(node.sweep(300 * turn).is_ok());
+        assert!(node.resend(300 * turn).is_ok());
+    }
+}
+
+#[test]
+fn the_sixth_send_is_the_last() {
+    let mut node = Node::open(0, 0, 300);
+    assert!(node.send(0, b"a").is_ok());
+    resend_all(&mut node, 5);
+    assert_eq!((node.s.blocks[0].sends, node.resend(1_500)), (6, Err(11)));
+    let before = node.s;
+    assert_eq!(node.receive(&ack(4)), 0);
+    assert_eq!(node.s, before, "the fifth send is lost");
+    assert_eq!((node.receive(&ack(5)), node.s.channel_low), (0, 1));
+    assert_eq!(node.s.blocks[0].sends, 0);
+}
+
+#[test]
+fn one_at_its_limit_holds_up_those_behind() {
+    let mut node = Node::open(0, 0, 300);
+    assert!(node.send(0, b"a").is_ok() && node.send(0, b"b").is_ok());
+    resend_all(&mut node, 5);
+    assert_eq!(node.sweep(1_800), Ok(1));
+    assert_eq!((node.resend(1_800), node.s.blocks[1].state), (Err(22), BlockState::Waiting));
+    assert!(node.send(1_800, b"c").is_ok());
+    assert_eq!((node.receive(&window(0)), node.send(1_800, b"d")), (0, Err(9)));
+    assert_eq!(node.resend(1_800), Err(22), "22 comes before 9");
+    (node.s.low, node.s.next) = (PAST - 1, PAST);
+    node.s.numbers.swap(7, 31);
+    assert_eq!(node.resend(1_800), Err(22), "22 comes before 12");
+}
+
 #[test]
 fn losses_by_numbers_received_above() {
     let mut node = Node::open(0, 0, 300);

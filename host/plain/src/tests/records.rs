@@ -34,11 +34,12 @@ fn survivors<T: Copy>(record: T, is_good: fn(&T) -> bool, changes: &[fn(&mut T)]
 
 #[test]
 fn sender_clauses() {
-    let changes: [fn(&mut Sender); 33] = [
+    let changes: [fn(&mut Sender); 38] = [
         |s| s.numbers[11].channel = 24,
         |s| s.numbers[12].state = NumberState::Received,
         |s| s.blocks[22].state = BlockState::Acknowledged,
         |s| s.blocks[22].len = 1_223,
+        |s| s.blocks[22].sends = 6,
         |s| s.timeout = 299,
         |s| s.timeout = 60_001,
         |s| s.first_data = 11,
@@ -68,8 +69,12 @@ fn sender_clauses() {
         |s| s.blocks[22].state = BlockState::InFlight,
         |s| s.blocks[22].len = 1_224,
         |s| s.blocks[25].len = 1,
+        |s| s.blocks[20].sends = 0,
+        |s| s.blocks[21].sends = 7,
+        |s| s.blocks[22].sends = 0,
+        |s| s.blocks[25].sends = 1,
     ];
-    assert_eq!(survivors(sender(), Sender::is_consistent, &changes), [0, 1, 2, 3]);
+    assert_eq!(survivors(sender(), Sender::is_consistent, &changes), [0, 1, 2, 3, 4]);
 }
 
 #[test]
