@@ -1,13 +1,13 @@
 #!/usr/bin/env python3
 """Brings the repository's own names to snake case: definitions, lemmas, fields and local names of specs/ and proofs/.
 
-usage: tools/respell.py [--look]     at the top of the repository, once, after the toolchain's port script
+usage: tools/respell.py [--look] [--prose]     at the top of the repository, once, after the toolchain's port script
 
 A word that begins small and has capitals (numbersOf) gets underscores (numbers_of). A word with dashes gets them too, if
 respell.tsv beside this script has it: there a lemma that would get the name of a definition ends in _lem. What stays:
 names of src/ that are Rust's, strings, generated names of proof files (they are declared at a type of 'tie' or 'goal'),
 names of the toolchain's library. Clauses, edits, and code spans of comments and pages follow.
---look writes nothing and lists the files in which a new name stood already.
+--prose turns code spans of comments and pages alone. --look writes nothing and lists the files in which a new name stood already.
 """
 
 import os
@@ -28,6 +28,7 @@ def rows():
 
 TABLE = rows()
 LEFT = {"repeat_n"}
+PROSE = "--prose" in sys.argv[1:]
 
 
 def snake(word):
@@ -62,7 +63,7 @@ def turned(text, kept=(), known=None):
 
 
 def comment(text, known):
-    return SPAN.sub(lambda m: turned(m[0], (), known), text)
+    return SPAN.sub(lambda m: "`" + turned(m[0][1:-1], (), known) + "`", text)
 
 
 GENERATED = re.compile(r"^(?:pub )?([^\s(){}.;,:]+) : (?:\{[^}]*\} → )?(?:tie\.|goal\.|statement\b|Tie\.)")
@@ -75,7 +76,7 @@ def antt(text, known):
     for line in lines:
         at = re.search(r"(?:^|\s)--(?=\s|$)", line)
         code, note = (line[: at.start()], line[at.start() :]) if at else (line, "")
-        out.append(turned(code, kept) + comment(note, known))
+        out.append((code if PROSE else turned(code, kept)) + comment(note, known))
     return "\n".join(out)
 
 
@@ -86,6 +87,9 @@ def rt(text, known):
         at = re.search(r"//", line)
         code, note = (line[: at.start()], line[at.start() :]) if at else (line, "")
         parts, last = [], 0
+        if PROSE:
+            out.append(code + comment(note, known))
+            continue
         for m in STRING.finditer(code):
             parts += [turned(code[last : m.start()], (), known), m[0]]
             last = m.end()
@@ -102,7 +106,7 @@ def edit(text, known):
 
 
 def page(text, known):
-    return SPAN.sub(lambda m: turned(m[0], (), known), text)
+    return comment(text, known)
 
 
 def files(top):
@@ -135,6 +139,8 @@ def main():
             both = sorted((w, spelled(w)) for w in words if spelled(w) != w and spelled(w) in words and spelled(spelled(w)) == spelled(w))
             for w, new in both:
                 print(f"{p}: {w} and {new}")
+            continue
+        if PROSE and p.endswith(".edit"):
             continue
         how = antt if p.endswith(".antt") else rt if p.endswith(".rt") else edit if p.endswith(".edit") else page
         new = how(text, known)

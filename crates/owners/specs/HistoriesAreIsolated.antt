@@ -1,7 +1,7 @@
 -- Isolation over histories, `histories`: two runs from lists of forty with equal view T, any calls of others anywhere between, T's calls the same in both and in order, each
 -- lent the stores as T's last call on that number left them. If at each opening of T's the runs agree on 25 and on the number given, then after each of T's calls the
 -- replies, the numbers, view T and T's stores are equal.
--- It goes by one run at a time, `has-alone`: what T has in a run is what T has alone, on the list that T sees, where what each opening is granted is told from outside.
+-- It goes by one run at a time, `has_alone`: what T has in a run is what T has alone, on the list that T sees, where what each opening is granted is told from outside.
 use Prim.Native.Nat.{ℕ, ◌+◌, ◌-◌, ◌<◌}
 use Rattle.std.specs.Prelude.{Bool, cond, ◌≡◌, length, get_or, leb}
 use Rattle.std.proofs.Math.Bool.{true, false}

@@ -1,4 +1,4 @@
--- What the check of a record asks of the blocks' places in their own order, besides `holdFits`.
+-- What the check of a record asks of the blocks' places in their own order, besides `hold_fits`.
 use Rattle.std.specs.Prelude.{ℕ, Bool, List, ltb, get_or}
 use Rattle.common.specs.Every.{implies}
 use Rattle.window.specs.Places.{past_of}

@@ -1,5 +1,5 @@
 -- What a call by number and token makes of the session at its place, written with the endpoint's own definitions at "the window of 32": `answer_of`, `writes_of`, `call_of`
--- and `sweepCount`. None of them is unfolded here. The contract of each call cites `made_of`.
+-- and `sweep_count`. None of them is unfolded here. The contract of each call cites `made_of`.
 use Rattle.std.specs.Prelude.{ℕ, cond, List, [], ◌≡◌, refl, eqb}
 use Rattle.std.proofs.Common.{ne_eqb}
 use Rattle.sender.specs.Sweep.{sweep_count}
