@@ -1,4 +1,6 @@
 // Acknowledgement: judged first, in one walk of the vector where it stands in the datagram, and only then applied.
+#![tactic(auto)]
+
 ghost use Rattle.std.specs.Prelude.{◌≡◌, true, false, cond, ◌+◌, ◌≤◌, length, replicate, leb};
 ghost use Rattle.numbers.specs.Widen.{widen_of};
 ghost use Rattle.numbers.specs.Full.{past_highest};

@@ -1,4 +1,6 @@
 // One event of a trace: its call, and the line of its answer.
+#![tactic(auto)]
+
 ghost use Rattle.std.specs.Prelude.{◌≡◌, ◌+◌, ◌≤◌, length};
 ghost use Rattle.text.specs.Within.{LaidWithin};
 ghost use Rattle.endpoint.specs.Calls.{call_of};

@@ -1,4 +1,6 @@
 // A datagram comes in: the receiver's half judges it, and keeps its block in a store that the host lends.
+#![tactic(auto)]
+
 ghost use Rattle.std.specs.Prelude.{◌≡◌};
 ghost use Rattle.receiver.specs.Record.{state};
 ghost use Rattle.receiver.specs.Receive.{receive_answer, receive_of};

@@ -1,5 +1,7 @@
 // The list of forty by value, for programs that keep it so: each function lends its own copy of the list to the call of `sessions` of the same name, and gives that copy
 // back. Two lists that are not of forty, of 39 and of 41, can be tried too.
+#![tactic(auto)]
+
 ghost use Rattle.std.specs.Prelude.{◌≡◌, [], length, replicate};
 ghost use Rattle.common.specs.Answer.{left_of};
 ghost use Rattle.endpoint.specs.Calls.{receives, takes, acknowledges, sends, resends, sweeps};

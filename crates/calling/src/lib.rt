@@ -1,4 +1,6 @@
 // One event of a trace: the call that it asks of the endpoint, made by the endpoint's own calls.
+#![tactic(auto)]
+
 ghost use Rattle.std.specs.Prelude.{◌≡◌};
 ghost use Rattle.common.specs.Answer.{number_of};
 ghost use Rattle.calling.specs.Asks.{endpoint_with, call_by};

@@ -1,4 +1,6 @@
 // A block goes out under a data number: its datagram, and the record after that. `sending` and `resending` judge first.
+#![tactic(auto)]
+
 ghost use Rattle.std.specs.Prelude.{◌≡◌, ◌≤◌, length};
 ghost use Rattle.common.specs.Answer.{room_answer, written_of, left_of};
 ghost use Rattle.numbers.specs.Full.{past_highest};

@@ -1,4 +1,6 @@
 // Writes the acknowledgement vector for a range of states, by document 01's rule: vector/specs/Rule.
+#![tactic(auto)]
+
 ghost use Rattle.std.specs.Prelude.{◌≡◌, ◌+◌, ◌*◌, ◌<◌, ◌≤◌, min, false, length, get_or, take, drop};
 ghost use Rattle.common.specs.Put.{put_of};
 ghost use Rattle.common.specs.Answer.{written_of, left_of};

@@ -1,5 +1,5 @@
 -- Refusals in order: a list of tests, each with its number, of which the first that holds gives the answer.
-use Rattle.std.specs.Prelude.{ℕ, ◌+◌, ◌<◌, Bool, true, false, cond, List, [], ◌∷◌, ◌++◌, ◌≡◌, refl}
+use Rattle.std.specs.Prelude.{ℕ, ◌<◌, Bool, true, false, cond, List, [], ◌∷◌, ◌++◌, ◌≡◌, refl}
 use Rattle.std.proofs.Common.{arith}
 
 -- a condition, and the number that it refuses by

@@ -1,5 +1,5 @@
 -- Bytes laid over others, and the laws by which one run of bytes after another makes one run.
-use Rattle.std.specs.Prelude.{ℕ, ◌+◌, ◌-◌, ◌≤◌, ◌<◌, List, [], ◌∷◌, ◌++◌, ◌≡◌, refl, length, take, drop, set}
+use Rattle.std.specs.Prelude.{ℕ, ◌+◌, ◌≤◌, ◌<◌, List, [], ◌∷◌, ◌++◌, ◌≡◌, refl, length, take, drop, set}
 use Rattle.std.proofs.Common.{append_assoc, append-nil, sym, ◌∙◌, ap, arith, add-zero, zero-add, suc-add, add-one, length-set, length-append, length-take, length-drop, take-append-drop, drop-drop, length-take-le, take_at}
 use Rattle.std.proofs.lemmas.List.{set_split, set-append_left}
 use Rattle.std.proofs.Math.Seq.{drop-append-add}

@@ -1,4 +1,6 @@
 // What several crates use: the answer of a call that writes, and the one loop that copies bytes.
+#![tactic(auto)]
+
 ghost use Rattle.std.specs.Prelude.{◌≡◌, [], ◌∷◌, ◌+◌, ◌≤◌, length};
 ghost use Rattle.common.specs.Put.{put_of};
 ghost use Rattle.common.specs.Laid.{Laid};

@@ -1,4 +1,6 @@
 // A part of a datagram, copied out for the host, as the additions, the vector bytes or the block of a packet that was read.
+#![tactic(auto)]
+
 ghost use Rattle.std.specs.Prelude.{◌≡◌, ◌+◌, ◌≤◌, length};
 ghost use Rattle.common.specs.Put.{put_of};
 ghost use Rattle.common.specs.Answer.{written_of, left_of};

@@ -1,5 +1,7 @@
 // One endpoint: the sender's half and the receiver's half, opened together; `receiving` tells both of the same datagrams.
 // The other calls take the half that they concern: `take` and `acknowledge` of the receiver, `send`, `resend` and `sweep` of the sender.
+#![tactic(auto)]
+
 ghost use Rattle.std.specs.Prelude.{◌≡◌};
 ghost use Rattle.endpoint.specs.Open.{open_answer, opened_of};
 

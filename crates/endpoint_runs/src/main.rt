@@ -1,6 +1,8 @@
 // Runs the endpoint's own two calls by a script, on both sides of their boundaries: opening, and a datagram that concerns both halves. Shows one
 // line for each call: its name, the sum of the receiver's store where the call was lent it, the answer, and both records as the call left them. The calls are `open`, `send`
 // (a new block, so that there is something to acknowledge), `in` (a packet with these values arrives) and `bytes` (these bytes arrive).
+#![tactic(auto)]
+
 use common::Written;
 use receiver::Receiver;
 use sender::Sender;

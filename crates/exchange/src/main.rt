@@ -1,5 +1,7 @@
 // Two endpoints send each other blocks over a channel that loses, doubles, delays and reorders by a fixed rule. Shows for each end what was
 // sent, lost, sent again and handed over, its records at the end, and whether every block was handed over once and in order.
+#![tactic(auto)]
+
 mod blocks;
 mod channel;
 mod ends;

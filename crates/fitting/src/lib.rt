@@ -1,4 +1,6 @@
 // Do the values of a packet fit their fields, and how long are its packet and its datagram?
+#![tactic(auto)]
+
 ghost use Rattle.std.specs.Prelude.{◌≡◌, false, ◌+◌, ◌-◌, ◌^◌, ◌≤◌, length, leb};
 ghost use Rattle.common.specs.Order.{first};
 ghost use Rattle.wire.specs.Flags.{ack_in, data_in, vector_in, both};

@@ -1,4 +1,6 @@
 // What a packet's numbers bring the receiver, judged on the record as given. Nothing is changed.
+#![tactic(auto)]
+
 ghost use Rattle.std.specs.Prelude.{◌≡◌, true, ◌≤◌};
 ghost use Rattle.numbers.specs.Widen.{widen_of};
 ghost use Rattle.numbers.specs.Full.{past_highest};

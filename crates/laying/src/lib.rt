@@ -1,4 +1,6 @@
 // Laying the payloads of a packet, each where it is flagged.
+#![tactic(auto)]
+
 ghost use Rattle.std.specs.Prelude.{◌≡◌, false, [], ◌∷◌, ◌++◌, ◌+◌, ◌^◌, ◌≤◌, ◌<◌, length, leb};
 ghost use Rattle.common.specs.Laid.{Laid};
 ghost use Rattle.wire.specs.Flags.{both};

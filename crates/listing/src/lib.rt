@@ -1,4 +1,6 @@
 // The listing of one datagram, as lines of text.
+#![tactic(auto)]
+
 ghost use Rattle.std.specs.Prelude.{◌≡◌, ◌≤◌, length};
 ghost use Rattle.common.specs.Answer.{written_of, left_of};
 ghost use Rattle.text.specs.Within.{LaidWithin};

@@ -1,4 +1,6 @@
 // The twelve lines of a packet that was read.
+#![tactic(auto)]
+
 ghost use Rattle.std.specs.Prelude.{◌+◌, ◌≤◌, length};
 ghost use Rattle.text.specs.Within.{LaidWithin};
 ghost use Rattle.listing_packet.specs.Lines.{packet_lines};

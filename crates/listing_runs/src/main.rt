@@ -1,5 +1,7 @@
 // Lists the datagrams of a script: of each its name, the lines of its listing, what listing answers, and how many bytes of the lent buffer behind
 // them were touched.
+#![tactic(auto)]
+
 use common::Written;
 
 // The listing, where there is one.

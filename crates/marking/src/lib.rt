@@ -1,5 +1,7 @@
 // The window of marks by itself, so that the whole record goes through no loop: all below a number is waived, a number is marked, and base moves
 // past marked places.
+#![tactic(auto)]
+
 ghost use Rattle.std.specs.Prelude.{◌≡◌, ◌+◌, ◌^◌, ◌≤◌, ◌<◌, max};
 ghost use Rattle.numbers.specs.Full.{highest, past_highest};
 ghost use Rattle.window.specs.Window.{lifted, slid};

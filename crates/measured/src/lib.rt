@@ -1,6 +1,8 @@
 // The host's calls, exported one after another in loops, so that `host/bench` can time them beside a plain program and compare every answer.
 // Datagrams, or blocks, stand one after another in lent bytes, and `ends` says where each ends. As many calls are made as there are both ends
 // and places for answers. The loops stand in crates of their own, `repeated_read` to `repeated_take`.
+#![tactic(auto)]
+
 ghost use Rattle.std.specs.Prelude.{◌≡◌, min, length};
 ghost use Rattle.wire.specs.Read.{read_of};
 ghost use Rattle.sender.specs.Acknowledge.{acknowledge_answer, acknowledge_of};

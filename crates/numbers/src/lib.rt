@@ -1,6 +1,8 @@
 // The two kinds of number, and the age of a tick.
 // "A data number counts transmissions and a channel number counts blocks": each is a type of its own, so that neither is
 // widened against the other's reference; both widen by the one rule.
+#![tactic(auto)]
+
 ghost use Rattle.std.specs.Prelude.{◌≡◌, ◌≤◌};
 ghost use Rattle.numbers.specs.Full.{past_highest};
 ghost use Rattle.numbers.specs.Widen.{widen_of, data_of, channel_of, out_of, from_data, from_channel};

@@ -1,5 +1,7 @@
 // One set of 32 packets arrives in several orders, with repeats and with takes between. Shows for each order the blocks that were handed over, how
 // many packets were accepted, and both records at the end: they are the same for all.
+#![tactic(auto)]
+
 mod packets;
 
 use common::Written;

@@ -1,1 +1,2 @@
 // Theorems on the list of forty sessions, of the definitions that the contracts of `sessions` cite: see specs/.
+#![tactic(auto)]

@@ -1,4 +1,6 @@
 // What stands at a place of a datagram: a byte, a number of two or three bytes, or a part of several.
+#![tactic(auto)]
+
 ghost use Rattle.std.specs.Prelude.{◌≡◌, ◌+◌, ◌≤◌, length};
 ghost use Rattle.common.specs.Put.{put_of};
 ghost use Rattle.wire.specs.Frame.{swapped, byte_at, word_at, three_at};

@@ -1,5 +1,7 @@
 // The places of a list of sessions that the host lends. Only these functions touch the list's elements; all are total, so that a call on the list has no
 // branch of its own: past the end stands a free session, and nothing can be put there.
+#![tactic(auto)]
+
 ghost use Rattle.std.specs.Prelude.{◌≡◌, get_or, set};
 ghost use Rattle.session.specs.Place.{blank};
 ghost use Rattle.session.specs.List.{lowest_of};

@@ -1,6 +1,8 @@
 // Reads the datagrams of a script, on both sides of the boundary of each refusal, and writes one line for each: its name, what reading answers,
 // and every value and place of the packet that is not 0, with the bytes at those places. A line of the script gives a datagram's bytes as they
 // come: the first is the packet's seventh, the eighth is the prefix.
+#![tactic(auto)]
+
 use wire::{Ack, Delay, Packet, Reading, Vector};
 
 // The values of an ACK.

@@ -1,4 +1,6 @@
 // Reading a datagram. Offsets come first, and the packet's struct is built once, at the end.
+#![tactic(auto)]
+
 ghost use Rattle.std.specs.Prelude.{◌≡◌, cond, not, ◌+◌, ◌%◌, ◌≤◌, ◌<◌, length, ltb};
 ghost use Rattle.wire.specs.Frame.{swapped, byte_at, word_at};
 ghost use Rattle.wire.specs.Flags.{both, flag_in};

@@ -1,6 +1,8 @@
 // The receiver's half of an endpoint: which data numbers have arrived, and which blocks wait to be taken. Its calls stand in crates of their own,
 // `arriving`, `taking` and `reporting`, and the check of a record in `receiver_checking`.
 // A record goes in by value and comes back by value; blocks stand in a store that the host lends, 1,225 bytes to a place.
+#![tactic(auto)]
+
 ghost use Rattle.std.specs.Prelude.{◌≡◌};
 ghost use Rattle.receiver.specs.Fresh.{fresh_of};
 

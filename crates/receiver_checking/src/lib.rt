@@ -1,4 +1,6 @@
 // Is a receiver's record consistent? Places are looked at in their own order, and a block's place again only near the end of the full range.
+#![tactic(auto)]
+
 ghost use Rattle.std.specs.Prelude.{◌≡◌, not};
 ghost use Rattle.common.specs.Every.{all_below};
 ghost use Rattle.receiver.specs.Consistent.{bounds_fit, mark_fits, hold_fits, consistent_of};

@@ -1,6 +1,8 @@
 // Runs the receiver by a script, on both sides of its boundaries, and shows one line for each call: its name, the answer, the record as the call
 // left it, and the sum of the store where the call was lent it. The calls are `open`, `record` (a record with these numbers and no mark), `in` (a packet with these values
 // arrives), `take` and `acknowledge`.
+#![tactic(auto)]
+
 use numbers::{ChannelNumber, DataNumber};
 use receiver::{Hold, Receiver};
 

@@ -1,5 +1,7 @@
 // One datagram comes in to an endpoint: the sender's half and the receiver's half are told of it together.
 // Both records go in by value and come back by value.
+#![tactic(auto)]
+
 ghost use Rattle.std.specs.Prelude.{◌≡◌};
 ghost use Rattle.wire.specs.Flags.{either, ack_in, vector_in};
 ghost use Rattle.endpoint.specs.Receive.{halves, receive_answer, receive_of};

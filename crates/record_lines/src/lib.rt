@@ -1,4 +1,6 @@
 // The lines of a replay: an answer, and the full record of an endpoint, laid over a lent buffer; each gives the next free place.
+#![tactic(auto)]
+
 ghost use Rattle.std.specs.Prelude.{◌+◌, ◌≤◌, ◌<◌, length, []};
 ghost use Rattle.text.specs.Ascii.{ascii};
 ghost use Rattle.text.specs.Lines.{between};

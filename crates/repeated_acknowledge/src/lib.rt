@@ -1,4 +1,6 @@
 // Datagrams one after another, taken into the sender's half alone.
+#![tactic(auto)]
+
 ghost use Rattle.std.specs.Prelude.{◌≡◌, min, length};
 ghost use Rattle.sender.specs.Acknowledge.{acknowledge_answer, acknowledge_of};
 ghost use Rattle.repeating.specs.Calls.{on_part, after, answered};

@@ -1,4 +1,6 @@
 // Reads a datagram, and tells what it answers with no enum in it.
+#![tactic(auto)]
+
 ghost use Rattle.std.specs.Prelude.{◌≡◌};
 ghost use Rattle.wire.specs.Read.{read_of};
 ghost use Rattle.repeated_read.specs.Told.{no_packet, told_of};

@@ -1,4 +1,6 @@
 // Datagrams one after another, received into both halves.
+#![tactic(auto)]
+
 ghost use Rattle.std.specs.Prelude.{◌≡◌, min, length};
 ghost use Rattle.endpoint.specs.Receive.{halves, receive_answer, receive_of};
 ghost use Rattle.repeating.specs.Calls.{on_part, after, answered};

@@ -1,4 +1,6 @@
 // New blocks one after another, sent at one tick.
+#![tactic(auto)]
+
 ghost use Rattle.std.specs.Prelude.{◌≡◌, min, length};
 ghost use Rattle.repeating.specs.Calls.{on_part, after, answered};
 ghost use Rattle.repeating.specs.Steps.{sending_of, send_step, send_number};

@@ -1,4 +1,6 @@
 // Blocks one after another, taken.
+#![tactic(auto)]
+
 ghost use Rattle.std.specs.Prelude.{◌≡◌, length};
 ghost use Rattle.repeating.specs.Calls.{each_time, after, answered};
 ghost use Rattle.repeating.specs.Steps.{taking_of, take_step, take_number};

@@ -1,4 +1,6 @@
 // Calls one after another, on parts of lent bytes: what the loops of `host/bench` share.
+#![tactic(auto)]
+
 ghost use Rattle.std.specs.Prelude.{◌≡◌, max, min};
 ghost use Rattle.repeating.specs.Steps.{written_number};
 

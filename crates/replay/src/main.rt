@@ -1,4 +1,6 @@
 // Replays a counter's morning: the trace of standard input, its answers and the record as lines on standard output.
+#![tactic(auto)]
+
 use common::Written;
 use libc::{STDIN_FILENO, STDOUT_FILENO};
 

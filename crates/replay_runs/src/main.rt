@@ -1,6 +1,8 @@
 // Replays the traces of a script, on both sides of each boundary, and shows one line for each: its name, the answers, every line of the record
 // that is not 0, and how many lines there were. Records events and heads too, with room and without, and at the end a morning, which it then
 // replays. The calls of the script are `replay`, `event` and `head`.
+#![tactic(auto)]
+
 mod recording;
 mod replaying;
 

@@ -1,5 +1,7 @@
 // Replays a counter's morning: from a fresh endpoint, one call for each event of a trace, a line for each answer, and at the end the full record.
 // A trace is taken line by line, with a value between the lines; no line of it is looked at again, and the output is laid once and then copied out.
+#![tactic(auto)]
+
 ghost use Rattle.std.specs.Prelude.{◌≡◌, ◌+◌, ◌≤◌, length};
 ghost use Rattle.common.specs.Answer.{written_of, left_of, room_answer};
 ghost use Rattle.text.specs.Within.{LaidWithin};

@@ -1,4 +1,6 @@
 // Reports what has arrived: an acknowledgement, written as a datagram.
+#![tactic(auto)]
+
 ghost use Rattle.std.specs.Prelude.{◌≡◌, length};
 ghost use Rattle.common.specs.Answer.{written_of, left_of};
 ghost use Rattle.receiver.specs.Acknowledge.{acknowledge_answer, acknowledgement_of};

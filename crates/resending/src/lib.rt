@@ -1,4 +1,6 @@
 // A resend: judged first, then written, and only then the record changes.
+#![tactic(auto)]
+
 ghost use Rattle.std.specs.Prelude.{◌≡◌, length};
 ghost use Rattle.common.specs.Answer.{written_of, left_of};
 ghost use Rattle.sender.specs.Record.{state};

@@ -1,6 +1,8 @@
 // A script: what a test program is told on standard input, a call to a line. A line begins with a name and a colon; behind it stand words, each
 // after a blank: the call, then what it is given, as `key=value`. A value is a number in decimal, or bytes in hexadecimal. What a line does not
 // give is 0, or no bytes.
+#![tactic(auto)]
+
 ghost use Rattle.std.specs.Prelude.{◌≤◌, ◌<◌, length};
 
 // What stands between two words, behind a name, and at the end of a line.

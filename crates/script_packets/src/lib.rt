@@ -1,4 +1,6 @@
 // A packet as a line of a script gives it, for the test programs: each value under its key. What a line does not give is 0.
+#![tactic(auto)]
+
 ghost use Rattle.std.specs.Prelude.{◌≤◌, length};
 
 use common::Written;

@@ -1,6 +1,8 @@
 // The sender's half of an endpoint: which data numbers are out, and which blocks they carry. Its calls stand in crates of their own,
 // `acknowledging`, `sweeping`, `sending` and `resending`, and the check of a record in `sender_checking`.
 // A record goes in by value and comes back by value; sent blocks stand in a store that the host lends, 1,225 bytes to a place.
+#![tactic(auto)]
+
 ghost use Rattle.std.specs.Prelude.{◌≡◌, true, cond, ◌≤◌, eqb};
 ghost use Rattle.sender.specs.Fresh.{fresh_of};
 ghost use Rattle.sender.specs.Send.{limit_of, at_limit_of};

@@ -1,4 +1,6 @@
 // Is a sender's record consistent? One pass over the numbers in range, then one over the numbers' places and one over the blocks'.
+#![tactic(auto)]
+
 ghost use Rattle.std.specs.Prelude.{◌≡◌, not, ◌%◌, leb, get_or};
 ghost use Rattle.common.specs.Every.{implies};
 ghost use Rattle.common.specs.EveryLaws.{raised};

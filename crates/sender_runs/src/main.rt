@@ -2,6 +2,8 @@
 // left it, and the sum of the store where the call was lent it. The calls are `open`, `record` (a record with these numbers, and nothing sent),
 // `waiting` (the same, with blocks 0 and 1 waiting), `new` (a new block), `many` (so many new blocks of one byte, in one line), `again` (a
 // resend), `in` (a packet with these values arrives) and `sweep`.
+#![tactic(auto)]
+
 use numbers::{ChannelNumber, DataNumber};
 use sender::{BlockPlace, NumberPlace, Sender};
 

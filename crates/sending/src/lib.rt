@@ -1,4 +1,6 @@
 // A new block: judged first, then written, and only then the record and the store change. `resending` sends one again.
+#![tactic(auto)]
+
 ghost use Rattle.std.specs.Prelude.{◌≡◌, true, cond, ◌+◌, ◌≤◌, length, leb, ltb};
 ghost use Rattle.common.specs.Answer.{written_of, left_of};
 ghost use Rattle.numbers.specs.Full.{highest, past_highest};

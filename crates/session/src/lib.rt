@@ -1,6 +1,8 @@
 // One session of the portal box: an endpoint with its owner's token, 0 where its place is free. Here are its record, the refusals that come before all
 // others, and all definitions; what a call makes of one session stands in `session_opening`, `session_receiving` and `session_sending`, the list of
 // forty in `sessions`.
+#![tactic(auto)]
+
 ghost use Rattle.std.specs.Prelude.{◌≡◌};
 ghost use Rattle.session.specs.Place.{blank, place_of, free_of, place_answer};
 

@@ -1,4 +1,6 @@
 // A session opened and closed, by value: what becomes of the session at a place of the list. Refused, it comes back as it was.
+#![tactic(auto)]
+
 ghost use Rattle.std.specs.Prelude.{◌≡◌, []};
 ghost use Rattle.session.specs.Call.{closes, made_of};
 ghost use Rattle.session.specs.Open.{opening_of};

@@ -1,5 +1,7 @@
 // The calls of a session's sending side, by value: what becomes of the session at a number's place of the list. Refused, it comes back as it was.
 // Refusals come in this order: 13 for a list not of forty, 23, 24, then those of the sender's call.
+#![tactic(auto)]
+
 ghost use Rattle.std.specs.Prelude.{◌≡◌, [], length};
 ghost use Rattle.common.specs.Answer.{left_of};
 ghost use Rattle.endpoint.specs.Calls.{sends, resends, sweeps};

@@ -2,6 +2,8 @@
 // session at the number's place, lets a function on values do the work, and puts back what that made of it: refused, the session as it was.
 // Refusals come in this order: 13 for a list not of forty, 23 for a number outside 1 to 40, 24 for no such session, then those of the endpoint's own call. A refusal
 // changes no place, no store and no output.
+#![tactic(auto)]
+
 ghost use Rattle.std.specs.Prelude.{◌≡◌, [], length};
 ghost use Rattle.common.specs.Answer.{left_of};
 ghost use Rattle.endpoint.specs.Calls.{receives, takes, acknowledges, sends, resends, sweeps};

@@ -1,4 +1,6 @@
 // Lists one datagram: the bytes of standard input, as lines on standard output.
+#![tactic(auto)]
+
 use common::Written;
 use libc::{STDIN_FILENO, STDOUT_FILENO};
 

@@ -1,5 +1,7 @@
 // What the test programs share: numbers, bytes and answers on standard output. Lent buffers are filled before a call with bytes that differ by
 // their place, so that a byte which the call should have left is seen.
+#![tactic(auto)]
+
 use common::Written;
 
 // So many bytes at the front and at the end of a long text are shown.

@@ -1,5 +1,7 @@
 // The records of the two halves, on one line: every field and every place that is not 0. A place is shown by its
 // number, 0 to 31.
+#![tactic(auto)]
+
 use receiver::Receiver;
 use sender::Sender;
 

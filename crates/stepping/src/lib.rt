@@ -1,4 +1,6 @@
 // One line of a trace: from the value that stands between two lines to the next, with the event's call and its answer.
+#![tactic(auto)]
+
 ghost use Rattle.std.specs.Prelude.{◌≡◌, ◌+◌, ◌≤◌, length};
 ghost use Rattle.trace.specs.Read.{data_due};
 ghost use Rattle.trace_state.specs.Takes.{Steps, machine_of};

@@ -1,4 +1,6 @@
 // Sweep: one pass from the highest number down tells which pending numbers are lost; then they turn.
+#![tactic(auto)]
+
 ghost use Rattle.std.specs.Prelude.{◌≡◌, true, cond, ◌+◌, ◌≤◌, ◌<◌, leb};
 ghost use Rattle.common.specs.Every.{count_below};
 ghost use Rattle.numbers.specs.Age.{reaches};

@@ -1,4 +1,6 @@
 // The host takes the block that is due.
+#![tactic(auto)]
+
 ghost use Rattle.std.specs.Prelude.{◌≡◌, ◌≤◌, length};
 ghost use Rattle.common.specs.Answer.{written_of, left_of};
 ghost use Rattle.numbers.specs.Full.{past_highest};

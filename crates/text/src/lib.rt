@@ -1,4 +1,6 @@
 // Numbers as text.
+#![tactic(auto)]
+
 ghost use Rattle.std.specs.Prelude.{◌+◌, ◌≤◌, length};
 ghost use Rattle.common.specs.Laid.{Laid};
 ghost use Rattle.text.specs.Decimal.{decimal_of};

@@ -1,6 +1,8 @@
 // A counter's morning as text (document 02, W1): four head lines, then three lines for each event. Here stand the numbers of it, what a reader keeps
 // between two lines, and in specs/ what a trace reads as and is written as. `trace_reading` and `trace_data` read one, line by line, and
 // `trace_head` and `trace_writing` write one into lent buffers. Nothing here knows an endpoint.
+#![tactic(auto)]
+
 ghost use Rattle.std.specs.Prelude.{◌≡◌};
 ghost use Rattle.trace.specs.Kinds.{carries};
 ghost use Rattle.trace.specs.Read.{fresh_cursor, due_of, behind_data};

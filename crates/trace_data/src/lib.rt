@@ -1,4 +1,6 @@
 // The line `data=` of a trace: bytes in lower-case hex, read into a lent buffer.
+#![tactic(auto)]
+
 ghost use Rattle.std.specs.Prelude.{◌≡◌, ◌≤◌, ◌/◌, length};
 ghost use Rattle.common.specs.Answer.{written_of, left_of};
 ghost use Rattle.common.specs.Put.{put_of};

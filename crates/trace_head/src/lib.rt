@@ -1,4 +1,6 @@
 // Writing the head of a trace, with which a recorded morning begins.
+#![tactic(auto)]
+
 ghost use Rattle.std.specs.Prelude.{◌≡◌, ◌≤◌, length};
 ghost use Rattle.common.specs.Answer.{written_of, left_of, room_answer};
 ghost use Rattle.text.specs.Ascii.{ascii};

@@ -1,4 +1,6 @@
 // An event's lines up to its bytes, written.
+#![tactic(auto)]
+
 ghost use Rattle.std.specs.Prelude.{◌+◌, ◌≤◌, length};
 ghost use Rattle.text.specs.Within.{LaidWithin};
 ghost use Rattle.trace.specs.Kinds.{kind_text};

@@ -1,4 +1,6 @@
 // The numbers that a trace's lines have.
+#![tactic(auto)]
+
 ghost use Rattle.std.specs.Prelude.{◌≡◌};
 ghost use Rattle.trace.specs.Numbers.{is_digit, number_of, number_under, first_of};
 

@@ -1,6 +1,8 @@
 // Reading a trace, line by line, with a cursor by value between the lines. A line is what stands between two newlines, or behind the last.
 // `trace::begin` is the cursor before the first. Where data is due `trace_data::read` reads the line, and `trace::behind_data` says what is
 // due behind it; `next` reads any other.
+#![tactic(auto)]
+
 ghost use Rattle.std.specs.Prelude.{◌≡◌, cond};
 ghost use Rattle.trace.specs.Words.{same};
 ghost use Rattle.trace.specs.Kinds.{kind_of};

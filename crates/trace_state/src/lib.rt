@@ -1,4 +1,6 @@
 // What stands between two lines of a trace: before the first, and behind the head, which opens the endpoint.
+#![tactic(auto)]
+
 ghost use Rattle.std.specs.Prelude.{◌≡◌};
 ghost use Rattle.trace.specs.Read.{due_of};
 ghost use Rattle.trace_state.specs.Steps.{opens_at, opened_by, open_with};

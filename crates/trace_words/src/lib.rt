@@ -1,4 +1,6 @@
 // The words of a trace's lines: where a byte stands, and whether a line is or starts with a key.
+#![tactic(auto)]
+
 ghost use Rattle.std.specs.Prelude.{◌≡◌, ◌+◌, length, drop};
 ghost use Rattle.trace.specs.Lines.{up_to};
 ghost use Rattle.trace.specs.Words.{same, starts_with};

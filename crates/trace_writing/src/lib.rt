@@ -1,5 +1,7 @@
 // Writing the events of a trace, each as it happens, so that a host can record a morning; `trace_head` writes the head, and
 // `trace_lead` an event's lines up to its bytes.
+#![tactic(auto)]
+
 ghost use Rattle.std.specs.Prelude.{◌≡◌, ◌++◌, ◌+◌, ◌≤◌, ◌<◌, length};
 ghost use Rattle.common.specs.Answer.{written_of, left_of};
 ghost use Rattle.common.specs.Laid.{Laid};

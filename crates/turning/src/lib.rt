@@ -1,4 +1,6 @@
 // Some pending numbers turn and their blocks with them, and both lows move on: what acknowledging and sweeping have in common.
+#![tactic(auto)]
+
 ghost use Rattle.std.specs.Prelude.{◌≡◌, true, false, cond, eqb, ltb};
 ghost use Rattle.sender.specs.Turn.{turned_of};
 ghost use Rattle.turning.specs.Turnable.{Turnable};

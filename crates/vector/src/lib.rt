@@ -1,5 +1,7 @@
 // The bytes of an acknowledgement vector: what each byte says. The crate `coder` writes them, by the rule in specs/Rule.
 // A state is true where its number was received. This crate knows no record and no datagram.
+#![tactic(auto)]
+
 ghost use Rattle.std.specs.Prelude.{◌≡◌, ◌+◌, ◌<◌, false, length, get_or};
 ghost use Rattle.std.specs.Int.Count.{ones};
 ghost use Rattle.vector.specs.Says.{bit_of, says_of, states_in, received_in};

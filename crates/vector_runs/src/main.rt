@@ -2,6 +2,8 @@
 // them it names as received, and the states themselves as a sum, 16 bytes to a line; then one line for each line of the script: its name, what
 // writing answers, the vector's bytes, and how many other bytes of the lent buffer were touched. A line gives runs of states in turn: `lost=`, `got=`,
 // `lost2=` and `got2=` say how many.
+#![tactic(auto)]
+
 ghost use Rattle.std.specs.Prelude.{◌<◌, ◌≤◌, length};
 
 // The longest range of states.

@@ -15,6 +15,7 @@ in_map f a (Memᴰ.head e) = Memᴰ.head (ap f e)
 in_map f a (Memᴰ.tail m) = Memᴰ.tail (in_map f a m)
 
 pub from_map : {A B : Type 0} (f : A → B) (b : B) (l : List A) → In b (map f l) → (a : A) × In a l × (b ≡ f a)
+from_map f b [] i = elim i [ ]
 from_map f b (x ∷ xs) (Memᴰ.head e) = (x, Memᴰ.head refl, e)
 from_map f b (x ∷ xs) (Memᴰ.tail m) = let (a, i, e) = from_map f b xs m in (a, Memᴰ.tail i, e)
 
@@ -107,10 +108,10 @@ unfolding top
 top_least e [] = omega arith
 top_least e (n ∷ ns) = omega (arith, top_least (max e n) ns)
 
-top_in : (e n : ℕ) {ns : List ℕ} → In n ns → n ≤ top e ns
+top_in : (n e : ℕ) {ns : List ℕ} → In n ns → n ≤ top e ns
 unfolding top
-top_in e n (Memᴰ.head {x = x} {xs = xs} q) = omega (arith, top_least (max e x) xs)
-top_in e n (Memᴰ.tail {x = x} m) = top_in (max e x) n m
+top_in n e (Memᴰ.head {x = x} {xs = xs} q) = omega (arith, top_least (max e x) xs)
+top_in n e (Memᴰ.tail {x = x} m) = top_in n (max e x) m
 
 top_most : (e : ℕ) (ns : List ℕ) (x : ℕ) → e ≤ x → ((n : ℕ) → In n ns → n ≤ x) → top e ns ≤ x
 unfolding top
@@ -122,6 +123,6 @@ pub top_same : (e : ℕ) (l k : List ℕ) → ((n : ℕ) → In n l → In n k) 
 top_same e l k f g =
     omega (
       arith,
-      top_most e l (top e k) (top_least e k) (λ n i. top_in e n (f n i)),
-      top_most e k (top e l) (top_least e l) (λ n i. top_in e n (g n i)),
+      top_most e l (top e k) (top_least e k) (λ n i. top_in n e (f n i)),
+      top_most e k (top e l) (top_least e l) (λ n i. top_in n e (g n i)),
     )

@@ -132,7 +132,7 @@ module _ {A : Type 0} {blank : A} {w cap : ℕ} {pass : A → Bool} (k : Shape b
   cleared_near v zero r f h = (floor_weak v (omega arith) h, omega arith)
   cleared_near {lo} {want} v (suc i) r f h =
       ⊎_elim
-      (λ lt. let q = cleared_near v i (passed blank w r) (omega arith) (leave h) in
+      (λ lt. let q = cleared_near {lo = r.base + 1} {want = want} v i (passed blank w r) (omega arith) (leave h) in
       let e : max (r.base + 1) v ≡ max lo v = omega (arith, h.from) in
       rw (lt-ltb r.base v lt) (subst (λ (x : ℕ). Weak blank w cap pass x want (cleared blank w i v (passed blank w r))) e q.0, q.1))
       (λ ge. rw (le-ltb r.base v ge) (floor_weak v ge h, ge))
@@ -142,8 +142,8 @@ module _ {A : Type 0} {blank : A} {w cap : ℕ} {pass : A → Bool} (k : Shape b
       → (x : ℕ) × Weak blank w cap pass x want (cleared blank w i v r) × ((cleared blank w i v r).base ≡ r.base + i)
   unfolding cleared
   cleared_far {lo} v zero r f h = (lo, h, omega arith)
-  cleared_far v (suc i) r f h =
-      let (x, q, e) = cleared_far v i (passed blank w r) (omega arith) (leave h) in
+  cleared_far {lo} {want} v (suc i) r f h =
+      let (x, q, e) = cleared_far {lo = r.base + 1} {want = want} v i (passed blank w r) (omega arith) (leave h) in
       rw (lt-ltb r.base v (omega arith)) (x, q, e ∙ omega arith)
 
   all_blank : {lo : ℕ} {want : ℕ → A} {r : Win A} → Weak blank w cap pass lo want r → ((n : ℕ) → r.base ≤ n → want n ≡ blank)

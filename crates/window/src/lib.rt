@@ -1,5 +1,7 @@
 // Numbers in a window: each has a place, its number modulo the window's size, and the window moves up past what is done with. Blocks stand
 // in a lent store at the places of their numbers.
+#![tactic(auto)]
+
 ghost use Rattle.std.specs.Prelude.{◌≡◌, ◌%◌, ◌<◌};
 ghost use Rattle.window.specs.Places.{past_of};
 ghost use Rattle.window.specs.Store.{sound_with};

@@ -1,6 +1,8 @@
 // One RDP-UDP2 datagram: its framing (prefix, short length, the exchange of two bytes), its header and its payloads.
 // The crate `reader` takes a datagram apart, and `writer` puts one together. No record and no window is known here; numbers are the
 // 16-bit fields that stand on the wire.
+#![tactic(auto)]
+
 pub mod bits;
 
 // The longest and the shortest datagram.

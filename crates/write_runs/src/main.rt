@@ -1,6 +1,8 @@
 // Writes the values of a script, on both sides of the boundary of each refusal, and shows one line for each: its name, what writing answers, the
 // bytes of an accepted datagram, and how many other bytes of the lent buffer were touched.
 // Writes a packet of these bytes into this buffer, and shows the answer.
+#![tactic(auto)]
+
 fn show(line: &[u8], additions: &[u8], coded: &[u8], block: &[u8], out: &mut [u8]) {
     showing::fill(out);
     let w = writer::write(script_packets::values(line), additions, coded, block, out);

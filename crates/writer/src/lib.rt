@@ -1,4 +1,6 @@
 // Writing one datagram: judged first, then written whole. This crate puts together what `reader::read` takes apart.
+#![tactic(auto)]
+
 ghost use Rattle.std.specs.Prelude.{◌≡◌, false, cond, ◌+◌, ◌-◌, ◌*◌, ◌≤◌, ◌<◌, length, replicate, ltb};
 ghost use Rattle.common.specs.Laid.{Laid};
 ghost use Rattle.common.specs.Answer.{written_of, left_of};

@@ -7,8 +7,7 @@ use lib.Dec.{eqb}
 use Rattle.vector.specs.declared.Saying.TheVariants.{Map, Run}
 use Rattle.vector.specs.Says.{says_of}
 use Rattle.vector.specs.Laws.{says_run, says_map}
-use Rattle.vector.proofs.says.Statement.{statement}
-use Rattle.vector.proofs.says.Tie as tie
+use Rattle.vector.proofs.says.Goals as goal
 
 run_by_masks : (b : ℕ) → bit_and (b / 128) 1 ≡ 1 → Run (eqb (bit_and (b / 64) 1) 1) (bit_and b 63) ≡ says_of b
 run_by_masks b t = rw (and_mask (b / 64) 1, and_mask b 6) (says_run b (sym (and_mask (b / 128) 1) ∙ t))
@@ -16,11 +15,8 @@ run_by_masks b t = rw (and_mask (b / 64) 1, and_mask b 6) (says_run b (sym (and_
 map_by_mask : (b : ℕ) → (bit_and (b / 128) 1 ≡ 1 → ⊥) → Map (bit_and b 127) ≡ says_of b
 map_by_mask b t = rw (and_mask b 7) (says_map b (λ e. t (and_mask (b / 128) 1 ∙ e)))
 
-returns : tie.Need-returns
-returns c = run_by_masks c.before.args.b c.if1.true
+pub returns-then-b-eq1 : goal.returns-then-b-eq1
+returns-then-b-eq1 c = run_by_masks c.args.b c.if-b-eq1.true
 
-returns-2 : tie.Need-returns-2
-returns-2 c = map_by_mask c.before.args.b c.if1.false
-
-pub says-spec : {M : Type 1} → statement M
-says-spec = tie.close (tie.spec returns returns-2)
+pub returns-else-b-eq1 : goal.returns-else-b-eq1
+returns-else-b-eq1 c = map_by_mask c.args.b c.if-b-eq1.false
