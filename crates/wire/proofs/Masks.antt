@@ -16,9 +16,9 @@ pub or_join : (k a b m : ℕ) → b < 2 ^ k → a * 2 ^ k % m ≡ a * 2 ^ k → 
 or_join k a b m h e =
     ap (λ (x : ℕ). bit_or x b) e ∙ or_shifted a k b h ∙ add_comm (a * 2 ^ k) b ∙ ap (λ (x : ℕ). b + x) (mul_comm a (2 ^ k))
 
-pub bool_byte : (t : Bool) → bool_byte t ≡ cond t 1 0
-bool_byte true = refl
-bool_byte false = refl
+pub bool_byte_lem : (t : Bool) → bool_byte t ≡ cond t 1 0
+bool_byte_lem true = refl
+bool_byte_lem false = refl
 
 pub bool_small : (t : Bool) → bool_byte t ≤ 1
 bool_small true = omega arith

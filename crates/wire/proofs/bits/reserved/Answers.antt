@@ -3,11 +3,7 @@ use mathlib.Core.Path.{ap}
 use Prim.Native.Nat.{ℕ}
 use lib.Dec.{eqb}
 use lib.Bits.{and_mask}
-use Rattle.wire.proofs.bits.reserved.Statement.{statement}
-use Rattle.wire.proofs.bits.reserved.Tie as tie
+use Rattle.wire.proofs.bits.reserved.Goals as goal
 
-returns : tie.Need-returns
+pub returns : goal.returns
 returns c = ap (λ (n : ℕ). eqb n 1) (and_mask c.args.prefix 1)
-
-pub reserved-spec : {M : Type 1} → statement M
-reserved-spec = tie.close (tie.spec returns)
