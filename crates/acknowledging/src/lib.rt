@@ -17,7 +17,7 @@ use sender::Sender;
 use wire::{Packet, Reading, bits};
 
 // What the walk of a vector tells.
-#[derive(Drop)]
+#[derive(Clone, Copy)]
 pub struct Walked {
     // Is a number named that was never sent?
     pub never: bool,
@@ -26,7 +26,7 @@ pub struct Walked {
 }
 
 // A judged acknowledgement: the answer, and which numbers it names, by a flag at their place or by lying below a number.
-#[derive(Drop)]
+#[derive(Clone, Copy)]
 pub struct Judged {
     // Document 01's number.
     pub answer: u8,
@@ -37,7 +37,7 @@ pub struct Judged {
 }
 
 // What the call answers, and the record; it stands first, which spares copies of it.
-#[derive(Drop)]
+#[derive(Clone, Copy)]
 pub struct Acknowledged {
     // The record after the call.
     pub sender: Sender,

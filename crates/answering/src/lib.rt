@@ -11,7 +11,7 @@ use receiver::Receiver;
 use sender::Sender;
 
 // Both records after an event's call, and the next free place behind its answer.
-#[derive(Drop)]
+#[derive(Clone, Copy)]
 pub struct Answered {
     // The sender's record after the call.
     pub sender: Sender,

@@ -11,7 +11,7 @@ use receiver::Receiver;
 use wire::Reading;
 
 // What receiving a datagram answers: document 01's number, and the record after the call; it stands first, which spares copies of it.
-#[derive(Drop)]
+#[derive(Clone, Copy)]
 pub struct Received {
     // The record after the call.
     pub receiver: Receiver,

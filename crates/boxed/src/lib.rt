@@ -14,7 +14,7 @@ use common::Written;
 use session::{Granted, Session, Tally};
 
 // What opening answers, and the list after it.
-#[derive(Drop)]
+#[derive(Clone, Copy)]
 pub struct Opens {
     // The number, and the session's number.
     pub granted: Granted,
@@ -23,7 +23,7 @@ pub struct Opens {
 }
 
 // What a call that writes nothing answers, and the list after it.
-#[derive(Drop)]
+#[derive(Clone, Copy)]
 pub struct Changes {
     // The number of documents 01 and 02.
     pub answer: u8,
@@ -32,7 +32,7 @@ pub struct Changes {
 }
 
 // What a call that writes answers, and the list after it.
-#[derive(Drop)]
+#[derive(Clone, Copy)]
 pub struct Writes {
     // The refusal, or how many bytes were written.
     pub written: Written,
@@ -41,7 +41,7 @@ pub struct Writes {
 }
 
 // What a sweep answers, and the list after it.
-#[derive(Drop)]
+#[derive(Clone, Copy)]
 pub struct Sweeps {
     // The number, and how many became lost.
     pub tally: Tally,

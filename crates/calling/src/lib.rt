@@ -11,7 +11,7 @@ use receiver::Receiver;
 use sender::Sender;
 
 // What a call answers, how many it found lost, and both records after it.
-#[derive(Drop)]
+#[derive(Clone, Copy)]
 pub struct Called {
     // Document 01's number.
     pub answer: u8,

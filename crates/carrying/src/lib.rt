@@ -16,7 +16,7 @@ use wire::{Ack, Delay, Values, Vector};
 const AOA_AND_DATA: u16 = 0x014;
 
 // What a call that sends answers: what it wrote, and the record.
-#[derive(Drop)]
+#[derive(Clone, Copy)]
 pub struct Outcome {
     // The refusal, or how many bytes were written.
     pub written: Written,

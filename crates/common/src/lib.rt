@@ -6,7 +6,7 @@ ghost use Rattle.common.specs.Put.{put_of};
 ghost use Rattle.common.specs.Laid.{Laid};
 
 // The answer of a call that writes into a lent buffer.
-#[derive(Drop)]
+#[derive(Clone, Copy)]
 pub enum Written {
     // The refusal's number; no lent byte is changed.
     Refused(u8),

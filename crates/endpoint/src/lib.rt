@@ -12,7 +12,7 @@ use sender::Sender;
 const FIRST: u32 = numbers::FIRST as u32;
 
 // What opening answers: document 01's number, and both records; where it is refused they are all zero, and the sender's is inconsistent.
-#[derive(Drop)]
+#[derive(Clone, Copy)]
 pub struct Opened {
     // Document 01's number.
     pub answer: u8,

@@ -8,7 +8,7 @@ use receiver::Receiver;
 use sender::Sender;
 
 // The two records of an endpoint.
-#[derive(Drop)]
+#[derive(Clone, Copy)]
 struct Pair {
     sender: Sender,
     receiver: Receiver,

@@ -8,7 +8,7 @@ use sender::Sender;
 const SPENT: u8 = 22;
 
 // The two records of an endpoint, and its counts.
-#[derive(Drop)]
+#[derive(Clone, Copy)]
 pub struct End {
     pub sender: Sender,
     pub receiver: Receiver,

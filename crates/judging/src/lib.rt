@@ -14,7 +14,7 @@ use receiver::Receiver;
 use wire::Values;
 
 // What a packet brings, its numbers widened, and judged.
-#[derive(Drop)]
+#[derive(Clone, Copy)]
 pub enum Arrived {
     // A number is out of place.
     Refused,
@@ -27,7 +27,7 @@ pub enum Arrived {
 }
 
 // The data number that a field stands for.
-#[derive(Drop)]
+#[derive(Clone, Copy)]
 pub enum FoundData {
     // It is out of place.
     Out,
@@ -35,7 +35,7 @@ pub enum FoundData {
 }
 
 // The channel number that a field stands for.
-#[derive(Drop)]
+#[derive(Clone, Copy)]
 pub enum FoundChannel {
     // It is out of place.
     Out,

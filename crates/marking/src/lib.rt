@@ -12,7 +12,7 @@ ghost use Rattle.marking.specs.Marks.{win_of};
 use numbers::DataNumber;
 
 // Base, and a mark for each of the numbers from base on.
-#[derive(Drop)]
+#[derive(Clone, Copy)]
 pub struct Marks {
     // The lowest number neither received nor waived.
     pub base: DataNumber,

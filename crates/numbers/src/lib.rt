@@ -17,7 +17,7 @@ pub const PAST: u64 = HIGHEST + 1;
 pub const FIRST: u64 = 65535;
 
 // What a field widens to, as a number of no kind yet.
-#[derive(Drop)]
+#[derive(Clone, Copy)]
 pub enum Widened {
     // This number.
     At(u64),
@@ -29,16 +29,16 @@ pub enum Widened {
 
 // A full data number.
 #[repr(C)]
-#[derive(Drop)]
+#[derive(Clone, Copy)]
 pub struct DataNumber(pub u64);
 
 // A full channel number.
 #[repr(C)]
-#[derive(Drop)]
+#[derive(Clone, Copy)]
 pub struct ChannelNumber(pub u64);
 
 // What a field widens to as a data number.
-#[derive(Drop)]
+#[derive(Clone, Copy)]
 pub enum WidenedData {
     At(DataNumber),
     Below(u16),
@@ -46,7 +46,7 @@ pub enum WidenedData {
 }
 
 // What a field widens to as a channel number.
-#[derive(Drop)]
+#[derive(Clone, Copy)]
 pub enum WidenedChannel {
     At(ChannelNumber),
     Below(u16),

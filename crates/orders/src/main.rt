@@ -9,7 +9,7 @@ use receiver::Receiver;
 use sender::Sender;
 
 // An endpoint's records, and what was counted.
-#[derive(Drop)]
+#[derive(Clone, Copy)]
 struct Run {
     sender: Sender,
     receiver: Receiver,

@@ -10,7 +10,7 @@ use numbers::{ChannelNumber, DataNumber};
 
 // A place for a block.
 #[repr(C)]
-#[derive(Drop)]
+#[derive(Clone, Copy)]
 pub struct Hold {
     // 1 where a block is held, and else 0.
     pub held: u8,
@@ -20,7 +20,7 @@ pub struct Hold {
 
 // The receiver's record.
 #[repr(C)]
-#[derive(Drop)]
+#[derive(Clone, Copy)]
 pub struct Receiver {
     // The first data number.
     pub firstdata: DataNumber,

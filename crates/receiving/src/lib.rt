@@ -12,7 +12,7 @@ use sender::Sender;
 use wire::{Reading, bits};
 
 // What receiving a datagram answers: document 01's number, and both records after the call; they stand first, which spares copies of them.
-#[derive(Drop)]
+#[derive(Clone, Copy)]
 pub struct Received {
     // The sender's record after the call.
     pub sender: Sender,

@@ -9,7 +9,7 @@ use wire::{Ack, Delay, Packet, Reading, Values, Vector};
 
 // What reading a datagram answers, with no enum in it.
 #[repr(C)]
-#[derive(Drop)]
+#[derive(Clone, Copy)]
 pub struct Told {
     // The packet, all zeros where none was read.
     pub packet: Packet,

@@ -10,7 +10,7 @@ use sender::Sender;
 
 // Both halves of an endpoint.
 #[repr(C)]
-#[derive(Drop)]
+#[derive(Clone, Copy)]
 pub struct Both {
     // The sender's record.
     pub sender: Sender,

@@ -13,7 +13,7 @@ use numbers::ChannelNumber;
 use sender::Sender;
 
 // The waiting block of lowest channel number, if any waits.
-#[derive(Drop)]
+#[derive(Clone, Copy)]
 pub enum Lowest {
     Nothing,
     Block(ChannelNumber),

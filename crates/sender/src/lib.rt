@@ -46,7 +46,7 @@ pub const ACKNOWLEDGED: u8 = 3;
 
 // A place for a data number. The widest field stands first: a place has 16 bytes.
 #[repr(C)]
-#[derive(Drop)]
+#[derive(Clone, Copy)]
 pub struct NumberPlace {
     // The block that it carries.
     pub channel: ChannelNumber,
@@ -58,7 +58,7 @@ pub struct NumberPlace {
 
 // A place for a block. The two bytes stand together, so that a place has four bytes.
 #[repr(C)]
-#[derive(Drop)]
+#[derive(Clone, Copy)]
 pub struct BlockPlace {
     // Vacant, in flight, waiting or acknowledged.
     pub state: u8,
@@ -70,7 +70,7 @@ pub struct BlockPlace {
 
 // The sender's record.
 #[repr(C)]
-#[derive(Drop)]
+#[derive(Clone, Copy)]
 pub struct Sender {
     // The first data number.
     pub firstdata: DataNumber,

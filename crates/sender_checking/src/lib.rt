@@ -132,7 +132,7 @@ fn blocks_wrong(blocks: [BlockPlace; 32], marks: [bool; 32], low: ChannelNumber,
 }
 
 // What a walk over the numbers in range tells: whether they fit, and a mark for each block that a pending one carries.
-#[derive(Drop)]
+#[derive(Clone, Copy)]
 struct Walk {
     fits: bool,
     marks: [bool; 32],

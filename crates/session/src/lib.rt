@@ -18,7 +18,7 @@ const HIGHEST: u64 = PLACES as u64;
 
 // A session. The token stands first, so that a search for a free place reads it at the place's start.
 #[repr(C)]
-#[derive(Drop)]
+#[derive(Clone, Copy)]
 pub struct Session {
     // The owner's token; 0 where the place is free.
     pub token: u64,
@@ -29,7 +29,7 @@ pub struct Session {
 }
 
 // What a call that writes nothing makes of a session.
-#[derive(Drop)]
+#[derive(Clone, Copy)]
 pub struct Reached {
     // The number of documents 01 and 02.
     pub answer: u8,
@@ -38,7 +38,7 @@ pub struct Reached {
 }
 
 // What a call that writes makes of a session.
-#[derive(Drop)]
+#[derive(Clone, Copy)]
 pub struct Filled {
     // The refusal, or how many bytes were written.
     pub written: Written,
@@ -47,7 +47,7 @@ pub struct Filled {
 }
 
 // What a sweep makes of a session.
-#[derive(Drop)]
+#[derive(Clone, Copy)]
 pub struct Counted {
     // The number of documents 01 and 02.
     pub answer: u8,
@@ -58,7 +58,7 @@ pub struct Counted {
 }
 
 // What opening makes of a place.
-#[derive(Drop)]
+#[derive(Clone, Copy)]
 pub struct Opening {
     // The number of documents 01 and 02.
     pub answer: u8,
@@ -69,7 +69,7 @@ pub struct Opening {
 }
 
 // What opening answers its caller.
-#[derive(Drop)]
+#[derive(Clone, Copy)]
 pub struct Granted {
     // The number of documents 01 and 02.
     pub answer: u8,
@@ -78,7 +78,7 @@ pub struct Granted {
 }
 
 // What a sweep answers its caller.
-#[derive(Drop)]
+#[derive(Clone, Copy)]
 pub struct Tally {
     // The number of documents 01 and 02.
     pub answer: u8,

@@ -12,7 +12,7 @@ use trace_state::State;
 const DATA: usize = 32768;
 
 // What a line leaves.
-#[derive(Drop)]
+#[derive(Clone, Copy)]
 pub struct Stepped {
     // The next free place of the output.
     pub at: usize,

@@ -12,7 +12,7 @@ use numbers::DataNumber;
 use sender::Sender;
 
 // Which numbers are lost if they are pending, each at its place, and how many are pending and lost.
-#[derive(Drop)]
+#[derive(Clone, Copy)]
 pub struct Losses {
     // Is the number at this place lost, if it is pending?
     pub flags: [bool; 32],
@@ -21,7 +21,7 @@ pub struct Losses {
 }
 
 // What the call answers, how many became lost, and the record; it stands first, which spares copies of it.
-#[derive(Drop)]
+#[derive(Clone, Copy)]
 pub struct Swept {
     // The record after the call.
     pub sender: Sender,

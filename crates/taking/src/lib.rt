@@ -12,7 +12,7 @@ use numbers::ChannelNumber;
 use receiver::{Hold, Receiver};
 
 // What taking a block answers, and the record after the call; it stands first, which spares copies of it.
-#[derive(Drop)]
+#[derive(Clone, Copy)]
 pub struct Taken {
     // The record after the call.
     pub receiver: Receiver,

@@ -53,7 +53,7 @@ pub const NEWLINE: u8 = 10;
 pub const HIGHEST: u64 = 4294967295;
 
 // What stands between two lines: which line is due, and what the lines so far said.
-#[derive(Drop)]
+#[derive(Clone, Copy)]
 pub struct Cursor {
     // Which line is due, or why none is.
     pub due: u8,
@@ -70,7 +70,7 @@ pub struct Cursor {
 }
 
 // A number as it was written.
-#[derive(Drop)]
+#[derive(Clone, Copy)]
 pub enum Value {
     // Badly written.
     Bad,
@@ -78,7 +78,7 @@ pub enum Value {
 }
 
 // Two numbers as they were written.
-#[derive(Drop)]
+#[derive(Clone, Copy)]
 pub enum Pair {
     // Badly written.
     Bad,

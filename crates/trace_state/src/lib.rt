@@ -14,7 +14,7 @@ use trace::Cursor;
 pub const UNOPENED: u8 = 9;
 
 // What stands between two lines.
-#[derive(Drop)]
+#[derive(Clone, Copy)]
 pub struct State {
     // Which line is due, and what the lines so far said.
     pub cursor: Cursor,

@@ -7,7 +7,7 @@ ghost use Rattle.std.specs.Int.Count.{ones};
 ghost use Rattle.vector.specs.Says.{bit_of, says_of, states_in, received_in};
 
 // What one byte of a vector says.
-#[derive(Drop)]
+#[derive(Clone, Copy)]
 pub enum Saying {
     // Seven numbers: bit i is the state of the i-th.
     Map(u8),

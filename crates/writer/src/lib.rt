@@ -14,7 +14,7 @@ use common::Written;
 use wire::{Values, bits};
 
 // What judging a write answers: the refusal's number, or how many bytes the packet has.
-#[derive(Drop)]
+#[derive(Clone, Copy)]
 pub enum Judged {
     Refused(u8),
     Fits(usize),

@@ -4,13 +4,9 @@ use Prim.Native.Nat.{ℕ, ◌*◌, ◌%◌}
 use mathlib.Core.Path.{◌≡◌, ◌∙◌, ap}
 use native.Mathlib.Omega.{arith}
 use lib.Bits.{bit_or, or_shifted}
-use Rattle.coder.proofs.in_front.Statement.{statement}
-use Rattle.coder.proofs.in_front.Tie as tie
+use Rattle.coder.proofs.in_front.Goals as goal
 
-returns : tie.Need-returns
+pub returns : goal.returns
 returns c = let m = c.args.m in
     let e : m * 2 % 256 ≡ m * 2 = omega arith in
     ap (λ (x : ℕ). bit_or x c.args.s) e ∙ or_shifted m 1 c.args.s (omega arith) ∙ omega arith
-
-pub in-front-spec : {M : Type 1} → statement M
-in-front-spec = tie.close (tie.spec returns)

@@ -4,17 +4,9 @@ use Prim.Native.Nat.{ℕ, ◌+◌, ◌*◌, ◌%◌}
 use mathlib.Core.Path.{◌≡◌, ◌∙◌, ap}
 use native.Mathlib.Omega.{arith}
 use lib.Bits.{bit_or, or_shifted}
-use borrow.Author.Rules.{rules}
-use Rattle.coder.proofs.run_byte.Statement.{statement}
-use Rattle.coder.proofs.run_byte.Tie as tie
+use Rattle.coder.proofs.run_byte.Goals as goal
 
-add-result : tie.Need-overflow-add-result
-add-result c = search rules
-
-returns : tie.Need-returns
+pub returns : goal.returns
 returns c = let s = c.args.s in
     let e : (2 + s) * 64 % 256 ≡ (2 + s) * 64 = omega arith in
     ap (λ (x : ℕ). bit_or x c.args.n) e ∙ or_shifted (2 + s) 6 c.args.n (omega arith) ∙ omega arith
-
-pub run-byte-spec : {M : Type 1} → statement M
-run-byte-spec = tie.close (tie.spec add-result returns)
