@@ -1,7 +1,6 @@
 -- `reader::read` meets its contract: each way out is an instance of a law of Refusals.
 use mathlib.Core.Path.{refl, ◌∙◌, sym}
 use Rattle.reader.proofs.Refusals.{frame_short, frame_long, frame_reserved, frame_dummy, frame_type, frame_read}
-use borrow.Author.Rules.{rules}
 use Rattle.reader.proofs.read.Goals as goal
 
 pub returns-then-n-lt-SHORTEST : goal.returns-then-n-lt-SHORTEST

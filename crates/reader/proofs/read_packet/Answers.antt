@@ -4,7 +4,6 @@ use mathlib.Core.Bool.{Bool}
 use Prim.Native.Nat.{ℕ, ◌%◌}
 use Rattle.wire.specs.Flags.{both, ack_in}
 use Rattle.reader.proofs.Refusals.{header_past, header_others, header_both, header_read}
-use borrow.Author.Rules.{rules}
 use Rattle.reader.proofs.read_packet.Goals as goal
 
 pub returns-then-end-lt3 : goal.returns-then-end-lt3

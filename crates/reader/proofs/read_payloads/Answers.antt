@@ -9,7 +9,6 @@ use Rattle.wire.specs.Flags.{both, data_in}
 use Rattle.wire.specs.Layout.{sized, stamp_size, timed_at, packet_of}
 use Rattle.reader.proofs.Places.{places_made, place_last, moved}
 use Rattle.reader.proofs.Refusals.{payloads_past, payloads_left, payloads_read}
-use borrow.Author.Rules.{rules}
 use Rattle.reader.proofs.read_payloads.Goals as goal
 
 pub returns-then-end-at7 : goal.returns-then-end-at7
@@ -24,11 +23,10 @@ returns-then-left_over c = let at = places_made (swapped c.args.d.now) c.args.fl
     payloads_left _ _ _ _ last c.if-end-at7.false (sym over ∙ c.if-left_over.true)
 
 pub values_at-values-requires : goal.values_at-values-requires
-values_at-values-requires c = let at = places_made (swapped c.args.d.now) c.args.flags _ _ _ _ _ _ _ _ c.flag.ensures c.flag-isvector.ensures c.ack_end-at1.ensures.0 c.step-at2.ensures.0 c.step-at3.ensures.0 c.step-at4.ensures.0 c.step-at5.ensures.0 c.vector_end-at6.ensures.0 in
-    ((c.requires.0.0, omega (arith, c.ack_end-at1.ensures.1, c.step-at2.ensures.1, c.step-at3.ensures.1, c.step-at4.ensures.1, c.step-at5.ensures.1), omega (arith, c.ack_end-at1.ensures.1, c.step-at2.ensures.1, c.step-at3.ensures.1, c.step-at4.ensures.1, c.step-at5.ensures.1), omega (arith, c.ack_end-at1.ensures.1, c.step-at2.ensures.1, c.step-at3.ensures.1, c.step-at4.ensures.1, c.step-at5.ensures.1), omega (arith, c.ack_end-at1.ensures.1, c.step-at2.ensures.1, c.step-at3.ensures.1, c.step-at4.ensures.1, c.step-at5.ensures.1), omega (arith, c.ack_end-at1.ensures.1, c.step-at2.ensures.1, c.step-at3.ensures.1, c.step-at4.ensures.1, c.step-at5.ensures.1, c.vector_end-at6.ensures.1)), (c.requires.1, at))
+values_at-values-requires c = let at = places_made (swapped c.args.d.now) c.args.flags _ _ _ _ _ _ _ _ c.flag.ensures c.flag-isvector.ensures c.ack_end-at1.ensures.0 c.step-at2.ensures.0 c.step-at3.ensures.0 c.step-at4.ensures.0 c.step-at5.ensures.0 c.vector_end-at6.ensures.0 in record { in_bounds = (c.requires.in_bounds.0, omega (arith, c.ack_end-at1.ensures.1, c.step-at2.ensures.1, c.step-at3.ensures.1, c.step-at4.ensures.1, c.step-at5.ensures.1), omega (arith, c.ack_end-at1.ensures.1, c.step-at2.ensures.1, c.step-at3.ensures.1, c.step-at4.ensures.1, c.step-at5.ensures.1), omega (arith, c.ack_end-at1.ensures.1, c.step-at2.ensures.1, c.step-at3.ensures.1, c.step-at4.ensures.1, c.step-at5.ensures.1), omega (arith, c.ack_end-at1.ensures.1, c.step-at2.ensures.1, c.step-at3.ensures.1, c.step-at4.ensures.1, c.step-at5.ensures.1), omega (arith, c.ack_end-at1.ensures.1, c.step-at2.ensures.1, c.step-at3.ensures.1, c.step-at4.ensures.1, c.step-at5.ensures.1, c.vector_end-at6.ensures.1)); header_value = c.requires.header_value; places = at }
 
 pub vector_place-vector-requires : goal.vector_place-vector-requires
-vector_place-vector-requires c = (c.requires.0.0, omega (arith, c.ack_end-at1.ensures.1, c.step-at2.ensures.1, c.step-at3.ensures.1, c.step-at4.ensures.1, c.step-at5.ensures.1))
+vector_place-vector-requires c = (c.requires.in_bounds.0, omega (arith, c.ack_end-at1.ensures.1, c.step-at2.ensures.1, c.step-at3.ensures.1, c.step-at4.ensures.1, c.step-at5.ensures.1))
 
 pub returns : goal.returns
 unfolding packet_of

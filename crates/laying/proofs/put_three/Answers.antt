@@ -1,0 +1,7 @@
+-- `laying::put_three` meets its contract: what its calls ensure, put together at each way out.
+use native.Mathlib.Omega.{arith}
+use Rattle.common.specs.Laid.{laid_then}
+use Rattle.laying.proofs.put_three.Goals as goal
+
+pub returns : goal.returns
+returns c = laid_then (omega arith) c.lay_byte-middle.ensures (laid_then (omega arith) c.lay_byte-high.ensures c.lay_byte.ensures)
