@@ -6,6 +6,8 @@
 
 ghost use Rattle.std.specs.Prelude.{◌<◌, ◌≤◌, length};
 
+use std::io;
+
 // The longest range of states.
 const MOST: usize = 256;
 
@@ -30,22 +32,23 @@ fn twice(n: u64, s: bool) -> u64 {
 }
 
 // What one byte says.
-fn says(b: u8) {
-    showing::number(b" ", vector::span(b) as u64);
-    showing::number(b":", vector::received(b) as u64);
-    showing::number(b":", states(b));
+fn says(rt: &impl Print, b: u8) -> io::Result<()> {
+    showing::number(rt, b" ", vector::span(b) as u64)?;
+    showing::number(rt, b":", vector::received(b) as u64)?;
+    showing::number(rt, b":", states(b))
 }
 
 // What each byte says, 16 to a line.
-fn all() {
+fn all(rt: &impl Print) -> io::Result<()> {
     let mut i: u32 = 0;
     while i < 256 {
-        says((i % 256) as u8);
+        says(rt, (i % 256) as u8)?;
         if i % 16 == 15 {
-            io::write_all(1, b"\n");
+            rt.write_all(b"\n")?;
         }
         i += 1;
     }
+    Ok(())
 }
 
 // So many states in a row, from place at on, as far as there is room; the result is the place behind them.
@@ -77,36 +80,37 @@ fn given(line: &[u8], states: &mut [bool]) -> usize
 }
 
 // Writes the vector of these states into this buffer.
-fn written(states: &[bool], out: &mut [u8]) {
+fn written(rt: &impl Print, states: &[bool], out: &mut [u8]) -> io::Result<()> {
     showing::fill(out);
     let w = coder::write(states, out);
-    showing::answered(w, out);
-    io::write_all(1, b"\n");
+    showing::answered(rt, w, out)?;
+    rt.write_all(b"\n")
 }
 
 // One line of the script.
-fn line(line: &[u8]) {
+fn line(rt: &impl Print, line: &[u8]) -> io::Result<()> {
     let mut states = [false; MOST];
     let mut out = [0u8; 64];
     let n = given(line, &mut states);
     let room = script::lent(line, b"room=", 0, 64);
-    script::name(line);
-    written(&states[..n], &mut out[..room]);
+    script::name(rt, line)?;
+    written(rt, &states[..n], &mut out[..room])
 }
 
 // Every line of the script.
-fn lines(text: &[u8]) {
+fn lines(rt: &impl Print, text: &[u8]) -> io::Result<()> {
     let mut from = 0;
     while from < text.len() {
         let end = script::end(text, from);
-        line(&text[from..end]);
+        line(rt, &text[from..end])?;
         from = end + 1;
     }
+    Ok(())
 }
 
-fn main() {
-    all();
+fn main(rt: HostRuntime) -> io::Result<()> {
+    all(&rt)?;
     let mut text = [0u8; 4096];
-    let n = io::read_full(0, &mut text);
-    lines(&text[..n]);
+    let n = script::read(&mut rt.stdin(), &mut text)?;
+    lines(&rt, &text[..n])
 }
