@@ -1,6 +1,6 @@
 -- Demand 3, first half, for the receiver: the datagrams ds are a set as document 01 has it (Set.antt), at the outset s. They arrive in any
 -- order, with repeats, with takes of any room between. w is the window, of any size up to 1,024, in cap places.
-use Rattle.std.specs.Prelude.{ℕ, ◌+◌, ◌-◌, ◌≤◌, ◌<◌, true, false, List, ◌++◌, map, ◌≡◌}
+use Rattle.std.specs.Prelude.{ℕ, ◌-◌, ◌≤◌, ◌<◌, true, false, List, ◌++◌, map, ◌≡◌}
 use Rattle.std.proofs.Common.{sym, ◌∙◌, ap, subst, arith}
 use Rattle.window.specs.Store.{place_size}
 use Rattle.window.specs.Members.{In}

@@ -103,6 +103,7 @@ shown d (Memᴰ.tail (Memᴰ.head e)) =
 shown d (Memᴰ.tail (Memᴰ.tail (Memᴰ.head e))) =
     subst (Shown 32 fresh body) (sym e)
     (record { packet = last; brings = three_bring.2; fits = omega arith; block = refl; held = λ t. clash (held_in 32 fresh.receiver 3) t (none_held 3) })
+shown d (Memᴰ.tail (Memᴰ.tail (Memᴰ.tail i))) = elim i [ ]
 
 pub three_are_a_set : Set 32 32 fresh three
 three_are_a_set =

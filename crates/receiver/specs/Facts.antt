@@ -1,5 +1,5 @@
 -- What a consistent record is, as facts on numbers; the tests of Consistent.antt say exactly these.
-use Rattle.std.specs.Prelude.{ℕ, ◌+◌, ◌-◌, ◌≤◌, ◌<◌, Bool, true, false, cond, List, [], ◌∷◌, ◌⊎◌, ◌≡◌, refl, eqb, leb, ltb, length, get_or}
+use Rattle.std.specs.Prelude.{ℕ, ◌+◌, ◌-◌, ◌≤◌, ◌<◌, Bool, true, false, cond, [], ◌∷◌, ◌⊎◌, ◌≡◌, refl, eqb, leb, ltb, length, get_or}
 use Rattle.std.proofs.Common.{inl, inr, ⊎_elim, ap, arith, lt-ltb, ltb-true, le-leb, leb-true, eq-eqb, eqb-true}
 use Rattle.std.proofs.Math.ListN.{get_or-eq_default}
 use Rattle.std.proofs.lemmas.Bool.{not-true}

@@ -81,6 +81,7 @@ module _ (f : List ℕ → Bool) where
 
   any_from : (d : List ℕ) → f d ≡ true → (ds : List (List ℕ)) → In d ds → any_of f ds ≡ true
   unfolding any_of
+  any_from d h [] i = elim i [ ]
   any_from d h (x ∷ xs) (Memᴰ.head e) = or_left (f x) (any_of f xs) (subst (λ (y : List ℕ). f y ≡ true) e h)
   any_from d h (x ∷ xs) (Memᴰ.tail m) = or_right (f x) (any_of f xs) (any_from d h xs m)
 
