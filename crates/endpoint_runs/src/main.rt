@@ -137,11 +137,8 @@ fn begin() -> Pair {
 // Every line of the script.
 fn runs(rt: &impl Print, text: &[u8], store: &mut [u8]) -> io::Result<()> {
     let mut p = begin();
-    let mut from = 0;
-    while from < text.len() {
-        let end = script::end(text, from);
-        p = run(rt, p, store, &text[from..end])?;
-        from = end + 1;
+    for line in script::lines(text) {
+        p = run(rt, p, store, line)?;
     }
     Ok(())
 }

@@ -51,11 +51,8 @@ fn run(rt: &impl Print, line: &[u8]) -> io::Result<()> {
 
 // Every line of the script.
 fn runs(rt: &impl Print, text: &[u8]) -> io::Result<()> {
-    let mut from = 0;
-    while from < text.len() {
-        let end = script::end(text, from);
-        run(rt, &text[from..end])?;
-        from = end + 1;
+    for line in script::lines(text) {
+        run(rt, line)?;
     }
     Ok(())
 }

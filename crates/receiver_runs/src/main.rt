@@ -125,11 +125,8 @@ fn run(rt: &impl Print, r: Receiver, store: &mut [u8], line: &[u8]) -> io::Resul
 // Every line of the script.
 fn runs(rt: &impl Print, text: &[u8], store: &mut [u8]) -> io::Result<()> {
     let mut r = receiver::opened(0, 0);
-    let mut from = 0;
-    while from < text.len() {
-        let end = script::end(text, from);
-        r = run(rt, r, store, &text[from..end])?;
-        from = end + 1;
+    for line in script::lines(text) {
+        r = run(rt, r, store, line)?;
     }
     Ok(())
 }

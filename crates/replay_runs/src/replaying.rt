@@ -51,12 +51,9 @@ fn shown(rt: &impl Print, line: &[u8]) -> io::Result<()> {
 // Shows an output.
 fn output(rt: &impl Print, text: &[u8]) -> io::Result<()> {
     let mut n: u64 = 0;
-    let mut from = 0;
-    while from < text.len() {
-        let end = script::end(text, from);
-        shown(rt, &text[from..end])?;
+    for line in script::lines(text) {
+        shown(rt, line)?;
         n = std::num::wrapping_add_u64(n, 1);
-        from = end + 1;
     }
     showing::number(rt, b" lines=", n)
 }

@@ -4,6 +4,7 @@
 #![tactic(auto)]
 
 ghost use Rattle.std.specs.Prelude.{◌≤◌, ◌<◌, length, IfOk};
+ghost use Rattle.std.specs.Iterator.{at_most};
 
 use std::io;
 use std::io::Read;
@@ -54,6 +55,35 @@ pub fn end(text: &[u8], from: usize) -> usize
     ensures within { result ≤ length text.now }
 {
     find(text, from, NEWLINE)
+}
+
+// The lines of a script that are still to come.
+#[derive(Drop)]
+pub struct LinesLeft<'a>(&'a [u8]);
+
+// The lines of a script, in turn.
+pub fn lines(text: &[u8]) -> LinesLeft<'_> {
+    LinesLeft(text)
+}
+
+impl<'a> Iterator for LinesLeft<'a> {
+    type Item = &'a [u8];
+
+    ghost remaining = { λ s. at_most (length s.0.now) };
+
+    fn next(&mut self) -> Option<&'a [u8]> {
+        let text = self.0;
+        if text.is_empty() {
+            return None;
+        }
+        let n = end(text, 0);
+        self.0 = if n < text.len() {
+            &text[n + 1..]
+        } else {
+            &text[n..]
+        };
+        Some(&text[..n])
+    }
 }
 
 // The place behind the next blank, or the end of the line.

@@ -239,11 +239,8 @@ fn run(rt: &impl Print, s: Sender, store: &mut [u8], line: &[u8]) -> io::Result<
 // Every line of the script.
 fn runs(rt: &impl Print, text: &[u8], store: &mut [u8]) -> io::Result<()> {
     let mut s = sender::opened(0, 0, 300);
-    let mut from = 0;
-    while from < text.len() {
-        let end = script::end(text, from);
-        s = run(rt, s, store, &text[from..end])?;
-        from = end + 1;
+    for line in script::lines(text) {
+        s = run(rt, s, store, line)?;
     }
     Ok(())
 }

@@ -14,9 +14,7 @@ const MOST: usize = 256;
 // The states that a byte gives its numbers, the i-th as bit i of a number; those past the 63rd are not in it.
 fn states(b: u8) -> u64 {
     let mut n: u64 = 0;
-    let mut i: u8 = 63;
-    while 0 < i {
-        i -= 1;
+    for i in (0..63u8).rev() {
         n = twice(n, vector::state(b, i));
     }
     n
@@ -40,13 +38,11 @@ fn says(rt: &impl Print, b: u8) -> io::Result<()> {
 
 // What each byte says, 16 to a line.
 fn all(rt: &impl Print) -> io::Result<()> {
-    let mut i: u32 = 0;
-    while i < 256 {
-        says(rt, (i % 256) as u8)?;
-        if i % 16 == 15 {
+    for b in 0..=255u8 {
+        says(rt, b)?;
+        if b % 16 == 15 {
             rt.write_all(b"\n")?;
         }
-        i += 1;
     }
     Ok(())
 }
@@ -57,14 +53,12 @@ fn run(states: &mut [bool], at: usize, n: u64, s: bool) -> usize
     ensures { result ≤ length states.old }
 {
     let mut to = at;
-    let mut i: u64 = 0;
-    while i < n {
+    for _ in 0..n {
         if states.len() <= to {
             return to;
         }
         states[to] = s;
         to += 1;
-        i += 1;
     }
     to
 }
@@ -99,11 +93,8 @@ fn line(rt: &impl Print, line: &[u8]) -> io::Result<()> {
 
 // Every line of the script.
 fn lines(rt: &impl Print, text: &[u8]) -> io::Result<()> {
-    let mut from = 0;
-    while from < text.len() {
-        let end = script::end(text, from);
-        line(rt, &text[from..end])?;
-        from = end + 1;
+    for each in script::lines(text) {
+        line(rt, each)?;
     }
     Ok(())
 }
