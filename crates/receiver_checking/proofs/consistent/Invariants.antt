@@ -1,11 +1,8 @@
 -- `receiver_checking::consistent` meets its contract: each way out is an instance of a law of Consistency, and the loops' flag is raised where a place before them is wrong.
 use Prim.Native.Nat.{◌-◌, ◌≤◌}
 use mathlib.Core.Path.{◌≡◌}
-use native.Mathlib.Omega.{arith}
-use borrow.Author.Rules.{rules}
-use borrow.Author.Tests.{not-true, not-false}
-use Rattle.common.specs.EveryLaws.{raised, raised_none, raised_more, raised_twice}
-use Rattle.receiver_checking.proofs.Consistency.{unmapped, mark_placed, kept_placed, bounds_told, bounds_fail, base_fails, end_fails, places_fail, beyond_fails, end_decides, end_low_lem}
+use Rattle.common.specs.EveryLaws.{raised}
+use Rattle.receiver_checking.proofs.Consistency.{mark_placed, kept_placed}
 use Rattle.receiver_checking.proofs.consistent.Given as goal
 
 abbrev pub invariant-loop-i : goal.invariant-loop-i

@@ -1,17 +1,12 @@
 -- `turning::turn` meets its contract: each way out is an instance of a law.
 use Prim.Native.Nat.{◌+◌, ◌-◌, ◌≤◌}
-use mathlib.Core.Logic.{⊎_elim}
-use mathlib.Core.Path.{◌≡◌, refl, sym, ◌∙◌}
-use native.Mathlib.Omega.{arith}
-use borrow.Author.Rules.{rules}
-use borrow.Author.Tests.{not-true, not-false, eq-eqb, ne_eqb}
+use mathlib.Core.Path.{◌≡◌}
 use Rattle.turning.specs.Chosen.{chosen_by}
 use Rattle.sender.specs.Turn.{turn_up_to, numbers_moved, blocks_moved}
-use Rattle.turning.proofs.Turned.{turn_none, turn_step, turn_skip, turn_all, turned_low, numbers_more, numbers_stopped, numbers_ended, moved_channellow, blocks_more, blocks_stop, blocks_end, turned_whole}
 use Rattle.turning.proofs.turn.Given as goal
 
 abbrev pub invariant-loop-i : goal.invariant-loop-i
-invariant-loop-i l = (l.i ≤ l.count) × (l.q ≡ turn_up_to 32 (record { l.number = l.number; l.block = l.block }) (chosen_by 32 l.flags l.upto) l.initial.q l.i)
+invariant-loop-i l = (l.i ≤ l.count) × (l.q ≡ turn_up_to 32 (record { number = l.number; block = l.block }) (chosen_by 32 l.flags l.upto) l.initial.q l.i)
 
 abbrev pub decreases-loop-i : goal.decreases-loop-i
 decreases-loop-i l = l.count - l.i
