@@ -84,14 +84,12 @@ fn all(
 ) -> io::Result<Run> {
     let mut q = r;
     let mut k = start;
-    let mut i: u32 = 0;
-    while i < 32 {
+    for i in 0..32u32 {
         q = comes(q, store, i, k);
         k = packets::next(k, factor);
         if packets::ends(every, i) {
             q = takes(rt, q, store)?;
         }
-        i += 1;
     }
     Ok(q)
 }
@@ -99,10 +97,8 @@ fn all(
 // Takes what is ready.
 fn rest(rt: &impl Print, r: Run, store: &[u8]) -> io::Result<Run> {
     let mut q = r;
-    let mut i: u32 = 0;
-    while i < 32 {
+    for _ in 0..32 {
         q = takes(rt, q, store)?;
-        i += 1;
     }
     Ok(q)
 }

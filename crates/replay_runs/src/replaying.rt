@@ -25,12 +25,10 @@ fn nothing(b: u8) -> bool {
 
 // Is every number of a record's line 0?
 fn zero(line: &[u8]) -> bool {
-    let mut i = script::find(line, 0, b'=');
-    while i < line.len() {
-        if !nothing(line[i]) {
+    for b in line.iter().skip(script::find(line, 0, b'=')) {
+        if !nothing(*b) {
             return false;
         }
-        i += 1;
     }
     true
 }
@@ -127,10 +125,8 @@ fn lays(line: &[u8], out: &mut [u8]) -> usize
 {
     let zeros = script::number(line, b"zeros=");
     let mut at = 0;
-    let mut i = script::value(line, b"trace=");
-    while i < line.len() {
-        at = sign(out, at, line[i], zeros);
-        i += 1;
+    for b in line.iter().skip(script::value(line, b"trace=")) {
+        at = sign(out, at, *b, zeros);
     }
     at
 }

@@ -129,10 +129,8 @@ fn adds(s: Sender, store: &mut [u8], tick: u32) -> Sender {
 // So many new blocks of one byte, at this tick.
 fn added(rt: &impl Print, s: Sender, store: &mut [u8], tick: u32, n: u64) -> io::Result<Sender> {
     let mut q = s;
-    let mut i: u64 = 0;
-    while i < n {
+    for _ in 0..n {
         q = adds(q, store, tick);
-        i += 1;
     }
     left(rt, q, store)?;
     Ok(q)

@@ -59,12 +59,8 @@ pub fn receiver(rt: &impl Print, r: Receiver) -> io::Result<()> {
 
 // A data number's place: its state, the block that it carried, and the tick at which it was sent.
 fn data(rt: &impl Print, i: usize, state: u8, channel: u64, tick: u32) -> io::Result<()> {
-    if state == 0 {
-        if channel == 0 {
-            if tick == 0 {
-                return Ok(());
-            }
-        }
+    if state == 0 && channel == 0 && tick == 0 {
+        return Ok(());
     }
     showing::number(rt, b" number", i as u64)?;
     showing::number(rt, b"=", state as u64)?;

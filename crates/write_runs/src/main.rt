@@ -1,10 +1,10 @@
 // Writes the values of a script, on both sides of the boundary of each refusal, and shows one line for each: its name, what writing answers, the
 // bytes of an accepted datagram, and how many other bytes of the lent buffer were touched.
-// Writes a packet of these bytes into this buffer, and shows the answer.
 #![tactic(auto)]
 
 use std::io;
 
+// Writes a packet of these bytes into this buffer, and shows the answer.
 fn show(
     rt: &impl Print,
     line: &[u8],
