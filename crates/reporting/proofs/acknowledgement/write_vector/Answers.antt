@@ -1,10 +1,8 @@
 -- `receiver::acknowledgement::write_vector` meets its contract: each way out is an instance of a law of Acknowledging and Consistency and Vectors.
 use native.Mathlib.Omega.{arith}
-use Prim.Native.Nat.{◌-◌, ◌≤◌}
-use mathlib.Core.Path.{◌≡◌, refl, sym, ◌∙◌, ap}
-use lib.ListN.{replicate, length, take}
+use mathlib.Core.Path.{sym, ◌∙◌, ap}
+use lib.ListN.{replicate, length}
 use Rattle.receiver.specs.AcknowledgeLaws.{states_length}
-use Rattle.receiver.specs.Acknowledge.{states_from}
 use Rattle.receiver.specs.Facts.{consistent_facts}
 use Rattle.reporting.proofs.Vectors.{states_none, states_step, states_done, vector_coded, vector_never}
 use Rattle.reporting.proofs.Acknowledging.{vector_written}
@@ -13,9 +11,6 @@ use Rattle.reporting.proofs.acknowledgement.write_vector.Goals as goal
 
 pub loop-i-init : goal.loop-i-init
 loop-i-init c = (search rules, search rules, states_none 32 c.args.r _)
-
--- TODO goal overflow-add-t20
--- add-t20 c = let f = consistent_facts 32 32 c.before.before.before.args.t1 c.before.before.before.requires.0 in omega (arith, f.base_range, f.end_near)
 
 pub bounds-states-i : goal.bounds-states-i
 bounds-states-i c = omega (arith, (consistent_facts 32 32 c.args.r c.requires.r_value).end_near)
@@ -40,22 +35,25 @@ slice_bounds-write-end c =
 
 pub returns-in_default : goal.returns-in_default
 returns-in_default c =
-    let both = vector_never 32 c.args.r
+    vector_never 32 c.args.r
     c.requires.r_value _
     (states_done 32 c.args.r _ _ _ _ (omega arith)
     c.loop-i.invariant.2) _ (replicate 32 0) _ (omega arith) c.write.ensures.answer
-    c.write.ensures.bytes _ c.in_default.is in record { answer = both.0; bytes = both.1 }
+    c.write.ensures.bytes _ c.in_default.is
 
--- TODO goal overflow-cast-t34
--- cast-t34 c =
---     omega (
---       arith,
---       (vector_coded 32 c.before.before.before.before.before.before.before.before.before.before.args.t1
---           c.before.before.before.before.before.before.before.before.before.before.requires.0 _
---           (states_done 32 c.before.before.before.before.before.before.before.before.before.before.args.t1 _ _ _ _ (omega arith)
---           c.before.before.before.before.before.before.before.before.loop.invariant.2) c.before.before.before.before.write.result (replicate 32 0) _ (omega arith)
---           c.before.before.before.before.write.ensures.0 c.before.before.before.before.write.ensures.1 c.before.k.given.0.0 c.before.k.given.1).fits,
---     )
+pub overflow_cast-values : goal.overflow_cast-values
+overflow_cast-values c =
+    omega (
+      arith,
+      (vector_coded 32 c.args.r c.requires.r_value _ (states_done 32 c.args.r _ _ _ _ (omega arith) c.loop-i.invariant.2) c.write.result (replicate 32 0) _ (omega arith)
+      c.write.ensures.answer c.write.ensures.bytes c.in-Wrote.k c.in-Wrote.is).fits,
+    )
+
+pub slice_bounds-write-end-4 : goal.slice_bounds-write-end-4
+slice_bounds-write-end-4 c =
+    let v = vector_coded 32 c.args.r c.requires.r_value _ (states_done 32 c.args.r _ _ _ _ (omega arith) c.loop-i.invariant.2) _ (replicate 32 0) _ (omega arith)
+    c.write.ensures.answer c.write.ensures.bytes _ c.in-Wrote.is in
+    v.size ∙ ap length (sym v.same)
 
 pub slice_bounds-coded-end : goal.slice_bounds-coded-end
 slice_bounds-coded-end c =
@@ -64,16 +62,6 @@ slice_bounds-coded-end c =
     (states_done 32 c.args.r _ _ _ _ (omega arith)
     c.loop-i.invariant.2) _ (replicate 32 0) _ (omega arith)
     c.write.ensures.answer c.write.ensures.bytes _ c.in-Wrote.is).within
-
--- TODO goal slice-aggregate-write-4
--- slice-aggregate-write-4 c =
---     let v = vector_coded 32 c.before.before.before.before.before.before.before.before.before.before.before.before.args.t1
---     c.before.before.before.before.before.before.before.before.before.before.before.before.requires.0 _
---     (states_done 32 c.before.before.before.before.before.before.before.before.before.before.before.before.args.t1 _ _ _ _ (omega arith)
---     c.before.before.before.before.before.before.before.before.before.before.loop.invariant.2) _ (replicate 32 0) _ (omega arith)
---     c.before.before.before.before.before.before.write.ensures.0 c.before.before.before.before.before.before.write.ensures.1 _
---     c.before.before.before.k.given.1 in
---     v.size ∙ ap length (sym v.same)
 
 pub returns : goal.returns
 returns c =
