@@ -22,6 +22,7 @@ is_any [] = false
 is_any (d ∷ ds) = true
 
 pub any_in_lem : (d : List ℕ) (ds : List (List ℕ)) → In d ds → is_any ds ≡ true
+any_in_lem d [] m = elim m [ ]
 any_in_lem d (x ∷ xs) m = refl
 
 module _ (w cap : ℕ) (o : State) (ds : List (List ℕ)) (set : Set w cap o ds) where

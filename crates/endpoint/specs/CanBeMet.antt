@@ -63,6 +63,7 @@ size_of d n r f p q = ap (λ (x : Packet). x.values.logwindow) (read_once p (fou
 pub each_of : (P : List ℕ → Type 0) (a b c : List ℕ) → P a → P b → P c → (d : List ℕ) → In d (a ∷ b ∷ c ∷ []) → P d
 each_of P a b c x y z d (Memᴰ.head e) = subst P (sym e) x
 each_of P a b c x y z d (Memᴰ.tail (Memᴰ.head e)) = subst P (sym e) y
+each_of P a b c x y z d (Memᴰ.tail (Memᴰ.tail (Memᴰ.tail x13))) = elim x13 [ ]
 each_of P a b c x y z d (Memᴰ.tail (Memᴰ.tail (Memᴰ.head e))) = subst P (sym e) z
 
 abbrev pub Reads : List ℕ → ℕ → Type 0
@@ -91,11 +92,13 @@ pub history_from : From three history
 unfolding datagrams_of
 history_from d (Memᴰ.head e) = Memᴰ.tail (Memᴰ.tail (Memᴰ.head e))
 history_from d (Memᴰ.tail (Memᴰ.head e)) = Memᴰ.head e
+history_from d (Memᴰ.tail (Memᴰ.tail (Memᴰ.tail (Memᴰ.tail x16)))) = elim x16 [ ]
 history_from d (Memᴰ.tail (Memᴰ.tail (Memᴰ.head e))) = Memᴰ.tail (Memᴰ.tail (Memᴰ.head e))
 history_from d (Memᴰ.tail (Memᴰ.tail (Memᴰ.tail (Memᴰ.head e)))) = Memᴰ.tail (Memᴰ.head e)
 
 pub history_covers : Covers three history
 unfolding datagrams_of
+history_covers d (Memᴰ.tail (Memᴰ.tail (Memᴰ.tail x12))) = elim x12 [ ]
 history_covers d (Memᴰ.head e) = Memᴰ.tail (Memᴰ.head e)
 history_covers d (Memᴰ.tail (Memᴰ.head e)) = Memᴰ.tail (Memᴰ.tail (Memᴰ.tail (Memᴰ.head e)))
 history_covers d (Memᴰ.tail (Memᴰ.tail (Memᴰ.head e))) = Memᴰ.head e

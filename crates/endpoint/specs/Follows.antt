@@ -82,6 +82,7 @@ module _ (w cap : ℕ) (sent : List ℕ) (s : Sender) (h : sender_tests.consiste
 -- Acknowledgements with other calls between: the sender's half runs by the acknowledgements alone, and the receiver's by what stands between.
 pub between_plain : {cs : List Call} {ds : List (List ℕ)} {es : List Event} → Between cs ds es → Plain (datagrams_of es)
 unfolding datagrams_of
+between_plain nothing x m = elim m [ ]
 between_plain (tells d o b) x m = between_plain b x m
 between_plain (brings d o b) x (Memᴰ.head q) = subst NoAck (sym q) o
 between_plain (brings d o b) x (Memᴰ.tail m) = between_plain b x m
@@ -89,6 +90,7 @@ between_plain (taken room b) x m = between_plain b x m
 between_plain (written stamp gap room b) x m = between_plain b x m
 
 pub between_acks : {cs : List Call} {ds : List (List ℕ)} {es : List Event} → Between cs ds es → (d : List ℕ) → In d ds → OnlyAck d
+between_acks nothing x m = elim m [ ]
 between_acks (tells d o b) x (Memᴰ.head q) = subst OnlyAck (sym q) o
 between_acks (tells d o b) x (Memᴰ.tail m) = between_acks b x m
 between_acks (brings d o b) x m = between_acks b x m

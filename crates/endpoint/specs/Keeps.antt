@@ -31,7 +31,7 @@ use Rattle.sender.specs.SendReady.{sound_facts}
 use Rattle.sender.specs.StaysConsistent.{acknowledge_keeps, sweep_keeps, new_sound, resend_sound}
 use Rattle.window.specs.Places.{always}
 use Rattle.endpoint.specs.Open.{open_tests, open_answer}
-use Rattle.endpoint.specs.Receive.{Halves, receiver_of, sound_of, packet_answer, packet_told, packet_of, read_into, receive_of}
+use Rattle.endpoint.specs.Receive.{Halves, receiver_of, packet_answer, packet_told, packet_of, read_into, receive_of}
 use Rattle.endpoint.specs.Calls.{Endpoint, Call, receives, takes, acknowledges, sends, resends, sweeps, sending_of, call_of}
 use Rattle.endpoint.specs.Sound.{Sound}
 use Rattle.endpoint.specs.Fresh.{fresh_of}
@@ -116,8 +116,8 @@ module _ (w cap : ℕ) (lw : 0 < w) (uw : w ≤ cap) (n c t : ℕ) (o : Opened n
   block : (m : ℕ) → block_at w (sending.fresh_of cap n c t) m ≡ no_block
   block m = always cap (m % w) no_block
 
-  sender_facts : sender_facts.Facts w cap (sending.fresh_of cap n c t)
-  sender_facts =
+  sender_facts_lem : sender_facts.Facts w cap (sending.fresh_of cap n c t)
+  sender_facts_lem =
       record {
         some = lw;
         fits = uw;
@@ -157,6 +157,6 @@ module _ (w cap : ℕ) (lw : 0 < w) (uw : w ≤ cap) (n c t : ℕ) (o : Opened n
   unfolding sound_with
   fresh_halves store sent ls lt =
       record {
-        sender = all_every _ (sender_facts.facts_consistent w cap (sending.fresh_of cap n c t) sender_facts, (eq-eqb _ _ lt, tt));
+        sender = all_every _ (sender_facts.facts_consistent w cap (sending.fresh_of cap n c t) sender_facts_lem, (eq-eqb _ _ lt, tt));
         receiver = receiver_facts.facts_sound w cap _ (length store) (fresh_facts w cap n c o.number o.channel) ls;
       }

@@ -98,6 +98,7 @@ in_tabulate (suc n) f (suc i) l = Memᴰ.tail (in_tabulate n (λ j. f (suc j)) i
 
 from_tabulate : {A : Type 0} (n : ℕ) (f : ℕ → A) (a : A) → In a (tabulate n f) → (i : ℕ) × (i < n) × (a ≡ f i)
 unfolding tabulate
+from_tabulate {A = A} zero f a x' = elim x' [ ]
 from_tabulate (suc n) f a (Memᴰ.head e) = (0, omega arith, e)
 from_tabulate (suc n) f a (Memᴰ.tail m) = let (i, l, e) = from_tabulate n (λ j. f (suc j)) a m in (suc i, omega arith, e)
 

@@ -1,6 +1,6 @@
 -- An endpoint that is not fresh, as an outset for both halves of demand 3. Its receiver stands at base 40 with 42 and 44 received, so end is 45, and at block 31 with 32 and 33 held.
 -- Its sender has sent up to 9: 5, 8 and 9 are pending, 6 is received, and 7 is lost, whose block 8 carries again. The peer's LogWindowSize was 3.
-use Rattle.std.specs.Prelude.{ℕ, ◌*◌, true, List, ◌∷◌, ◌++◌, ◌≡◌, refl, length, replicate, set}
+use Rattle.std.specs.Prelude.{ℕ, true, List, ◌∷◌, ◌++◌, ◌≡◌, refl, length, replicate, set}
 use Rattle.std.proofs.Common.{◌∙◌, arith, length-append, eq-eqb}
 use Rattle.std.proofs.lemmas.List.{length-replicate}
 use Rattle.common.specs.Every.{every, all_below, count_below, implies}

@@ -323,6 +323,7 @@ never_heard =
 
     refused : (d : List ℕ) → In d (never_sent ∷ []) → receive_answer 32 32 used.halves d ≡ 0 → ⊥
     refused d (Memᴰ.head q) a = let z : ◌≡◌ {A = ℕ} 8 0 = sym eight ∙ sym (ap (receive_answer 32 32 used.halves) q) ∙ a in omega arith
+    refused d (Memᴰ.tail x5) a = elim x5 [ ]
 
 -- And where the data are the three of the set, whatever their order and repeats, with takes and acknowledgements between, the three blocks are handed over, each once, in
 -- order, and the receiver's half settles.
@@ -367,22 +368,26 @@ events_from : From used_set used_events
 unfolding datagrams_of
 events_from d (Memᴰ.head e) = Memᴰ.tail (Memᴰ.tail (Memᴰ.head e))
 events_from d (Memᴰ.tail (Memᴰ.head e)) = Memᴰ.tail (Memᴰ.head e)
+events_from d (Memᴰ.tail (Memᴰ.tail (Memᴰ.tail (Memᴰ.tail x16)))) = elim x16 [ ]
 events_from d (Memᴰ.tail (Memᴰ.tail (Memᴰ.head e))) = Memᴰ.head e
 events_from d (Memᴰ.tail (Memᴰ.tail (Memᴰ.tail (Memᴰ.head e)))) = Memᴰ.tail (Memᴰ.tail (Memᴰ.head e))
 
 events_cover : Covers used_set used_events
 unfolding datagrams_of
+events_cover d (Memᴰ.tail (Memᴰ.tail (Memᴰ.tail x12))) = elim x12 [ ]
 events_cover d (Memᴰ.head e) = Memᴰ.tail (Memᴰ.tail (Memᴰ.head e))
 events_cover d (Memᴰ.tail (Memᴰ.head e)) = Memᴰ.tail (Memᴰ.head e)
 events_cover d (Memᴰ.tail (Memᴰ.tail (Memᴰ.head e))) = Memᴰ.head e
 
 acks_there : (d : List ℕ) → In d (never_sent ∷ nine_vector ∷ five_ack ∷ nine_vector ∷ []) → In d used_acks
+acks_there d (Memᴰ.tail (Memᴰ.tail (Memᴰ.tail (Memᴰ.tail x16)))) = elim x16 [ ]
 acks_there d (Memᴰ.head e) = Memᴰ.tail (Memᴰ.tail (Memᴰ.head e))
 acks_there d (Memᴰ.tail (Memᴰ.head e)) = Memᴰ.tail (Memᴰ.head e)
 acks_there d (Memᴰ.tail (Memᴰ.tail (Memᴰ.head e))) = Memᴰ.head e
 acks_there d (Memᴰ.tail (Memᴰ.tail (Memᴰ.tail (Memᴰ.head e)))) = Memᴰ.tail (Memᴰ.head e)
 
 acks_back : (d : List ℕ) → In d used_acks → In d (never_sent ∷ nine_vector ∷ five_ack ∷ nine_vector ∷ [])
+acks_back d (Memᴰ.tail (Memᴰ.tail (Memᴰ.tail x12))) = elim x12 [ ]
 acks_back d (Memᴰ.head e) = Memᴰ.tail (Memᴰ.tail (Memᴰ.head e))
 acks_back d (Memᴰ.tail (Memᴰ.head e)) = Memᴰ.tail (Memᴰ.head e)
 acks_back d (Memᴰ.tail (Memᴰ.tail (Memᴰ.head e))) = Memᴰ.head e

@@ -26,6 +26,7 @@ count_no p x h t = ap (λ (b : Bool). cond b (suc (count_in p h)) (count_in p h)
 module _ (p : ℕ → Bool) (c : ℕ) where
   pub gone_any : (n : ℕ) (h : List Entry) → Gone n c h → p n ≡ true → any_in (transmits_under p c) h ≡ true
   unfolding any_in
+  gone_any n [] g t = elim g [ ]
   gone_any n (sent again m d ∷ h) (inl g) t =
       or_left _ (any_in (transmits_under p c) h) (ap (λ (b : Bool). cond b (p m) false) (eq-eqb d c (sym g.1)) ∙ ap p (sym g.0) ∙ t)
   gone_any n (sent again m d ∷ h) (inr g) t = or_right (cond (eqb d c) (p m) false) _ (gone_any n h g t)
@@ -51,6 +52,7 @@ module _ (firstdata firstchannel : ℕ) where
   -- What has gone out has a number below the next,
   gone_below : (n c : ℕ) (h : List Entry) → InOrder firstdata firstchannel h → Gone n c h → n < firstdata + transmissions_in h
   unfolding count_in
+  gone_below n c [] o g = elim g [ ]
   gone_below n c (sent again m d ∷ h) o (inl g) = omega (arith, g.0, o.0)
   gone_below n c (sent again m d ∷ h) o (inr g) = omega (arith, gone_below n c h o.2 g)
   gone_below n c (told f ∷ h) o g = gone_below n c h o g
@@ -58,6 +60,7 @@ module _ (firstdata firstchannel : ℕ) where
 
   -- so a number goes out once.
   pub gone_once : (n c d : ℕ) (h : List Entry) → InOrder firstdata firstchannel h → Gone n c h → Gone n d h → c ≡ d
+  gone_once n c d [] o g k = elim g [ ]
   gone_once n c d (sent again m x ∷ h) o (inl g) (inl k) = g.1 ∙ sym k.1
   gone_once n c d (sent again m x ∷ h) o (inl g) (inr k) = absurd (omega (arith, g.0, o.0, gone_below n d h o.2 k))
   gone_once n c d (sent again m x ∷ h) o (inr g) (inl k) = absurd (omega (arith, k.0, o.0, gone_below n c h o.2 g))

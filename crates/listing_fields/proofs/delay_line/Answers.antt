@@ -1,0 +1,15 @@
+-- `delay_line` meets its contract: key, numbers and newline one after the other where the flag is set, and the whole line at once where it is not.
+use mathlib.Core.Path.{sym, ◌∙◌}
+use native.Mathlib.Omega.{arith}
+use Rattle.text.specs.Ascii.{ascii}
+use Rattle.text.specs.Within.{within, within_line}
+use Rattle.listing_fields.proofs.Runs.{within_present, within_dash}
+use Rattle.listing_fields.proofs.delay_line.Goals as goal
+
+pub returns-then-flag : goal.returns-then-flag
+returns-then-flag c = within_line c.requires (within 6 (omega arith) c.lay-after.ensures)
+    (within_present _ _ (sym c.flag.ensures ∙ c.if-flag.true) c.delay_text-end.ensures)
+    (within 1 (omega arith) c.lay.ensures)
+
+pub returns : goal.returns
+returns c = within_dash (ascii "delay=") _ _ (sym c.flag.ensures ∙ c.if-flag.false) (within 48 (omega arith) c.lay-2.ensures)

@@ -1,0 +1,6 @@
+-- `vector_text` meets its contract: each number stands with its comma before the next.
+use Rattle.text.specs.Within.{within_comma}
+use Rattle.listing_fields.proofs.vector_text.Goals as goal
+
+pub returns : goal.returns
+returns c = within_comma _ c.requires c.item-at1.ensures (λ h. within_comma _ h c.item-at2.ensures (λ h. c.number.ensures))
