@@ -3,7 +3,8 @@
 // give is 0, or no bytes.
 #![tactic(auto)]
 
-ghost use Rattle.std.specs.Prelude.{◌≤◌, ◌<◌, length, IfOk};
+ghost use Rattle.std.specs.Prelude.{◌≤◌, ◌<◌, length, take, IfOk};
+ghost use Rattle.std.specs.Io.KnownBytes.{Consumes, IsAtEnd};
 ghost use Rattle.std.specs.Iterator.{at_most};
 
 use std::io;
@@ -19,15 +20,17 @@ const NEWLINE: u8 = 10;
 // What stands before the number of bytes, where there are more than are given.
 const STAR: u8 = 42;
 
-// Reads a script: fills text as far as the input goes, and answers how many bytes that is. What stands behind the end of text is left unread.
+// Reads a script: fills text as far as the input goes, and answers how many bytes that is. What the text has no room for is left unread.
 pub fn read<R: Read>(input: &mut R, text: &mut [u8]) -> io::Result<usize>
-    ensures { IfOk result (λ n. n ≤ length text.old) }
+    ensures within { IfOk result (λ n. n ≤ length text.old) }
+    ensures bytes { IfOk result (λ n. Consumes (R.remaining input.old) (R.remaining input.new) (take n text.new)) }
+    ensures end { IfOk result (λ n. n < length text.old → IsAtEnd (R.remaining input.new)) }
 {
     let mut n = 0;
     while n < text.len() {
         let more = input.read(&mut text[n..])?;
         if more == 0 {
-            break;
+            return Ok(n);
         }
         n += more;
     }
