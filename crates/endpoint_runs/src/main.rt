@@ -6,6 +6,7 @@
 use common::Written;
 use receiver::Receiver;
 use sender::Sender;
+use std::io;
 
 // The two records of an endpoint.
 #[derive(Clone, Copy)]
@@ -15,17 +16,17 @@ struct Pair {
 }
 
 // The answer and both records.
-fn left(answer: u8, p: Pair) {
-    showing::number(b" answer=", answer as u64);
-    io::write_all(1, b" sender");
-    showing_records::sender(p.sender);
-    io::write_all(1, b" receiver");
-    showing_records::receiver(p.receiver);
-    io::write_all(1, b"\n");
+fn left(rt: &impl Print, answer: u8, p: Pair) -> io::Result<()> {
+    showing::number(rt, b" answer=", answer as u64)?;
+    rt.write_all(b" sender")?;
+    showing_records::sender(rt, p.sender)?;
+    rt.write_all(b" receiver")?;
+    showing_records::receiver(rt, p.receiver)?;
+    rt.write_all(b"\n")
 }
 
 // Opens an endpoint.
-fn opens(line: &[u8]) -> Pair {
+fn opens(rt: &impl Print, line: &[u8]) -> io::Result<Pair> {
     let o = endpoint::open(
         script_packets::long(line, b"firstdata="),
         script_packets::long(line, b"firstchannel="),
@@ -37,8 +38,8 @@ fn opens(line: &[u8]) -> Pair {
         sender: s,
         receiver: r,
     };
-    left(o.answer, p);
-    p
+    left(rt, o.answer, p)?;
+    Ok(p)
 }
 
 // Document 01's number for what a send wrote.
@@ -50,7 +51,7 @@ fn number(w: Written) -> u8 {
 }
 
 // Sends a new block, with a store of its own: none is sent again here.
-fn sends(p: Pair, line: &[u8]) -> Pair {
+fn sends(rt: &impl Print, p: Pair, line: &[u8]) -> io::Result<Pair> {
     let mut sent = [0u8; window::STORE];
     let mut out = [0u8; 64];
     let mut block = [0u8; 32];
@@ -69,12 +70,12 @@ fn sends(p: Pair, line: &[u8]) -> Pair {
         sender: s,
         receiver: r,
     };
-    left(number(w), q);
-    q
+    left(rt, number(w), q)?;
+    Ok(q)
 }
 
 // A datagram arrives.
-fn receives(p: Pair, store: &mut [u8], d: &[u8]) -> Pair {
+fn receives(rt: &impl Print, p: Pair, store: &mut [u8], d: &[u8]) -> io::Result<Pair> {
     let got = receiving::receive(p.sender, p.receiver, store, d);
     let s = got.sender;
     let r = got.receiver;
@@ -82,47 +83,47 @@ fn receives(p: Pair, store: &mut [u8], d: &[u8]) -> Pair {
         sender: s,
         receiver: r,
     };
-    showing::sum(b" store=", store, store.len());
-    left(got.answer, q);
-    q
+    showing::sum(rt, b" store=", store, store.len())?;
+    left(rt, got.answer, q)?;
+    Ok(q)
 }
 
 // A packet with these values arrives, with the store or a part of it.
-fn arrives(p: Pair, store: &mut [u8], line: &[u8]) -> Pair {
+fn arrives(rt: &impl Print, p: Pair, store: &mut [u8], line: &[u8]) -> io::Result<Pair> {
     let mut d = [0u8; 1232];
     let n = script_packets::make(line, &mut d);
     let size = script::lent(line, b"store=", window::STORE, 39201);
     if store.len() < size {
-        return p;
+        return Ok(p);
     }
-    receives(p, &mut store[..size], &d[..n])
+    receives(rt, p, &mut store[..size], &d[..n])
 }
 
 // These bytes arrive, with the store or a part of it.
-fn bytes(p: Pair, store: &mut [u8], line: &[u8]) -> Pair {
+fn bytes(rt: &impl Print, p: Pair, store: &mut [u8], line: &[u8]) -> io::Result<Pair> {
     let mut d = [0u8; 1233];
     let n = script::bytes(line, b"bytes=", &mut d);
     let size = script::lent(line, b"store=", window::STORE, 39201);
     if store.len() < size {
-        return p;
+        return Ok(p);
     }
-    receives(p, &mut store[..size], &d[..n])
+    receives(rt, p, &mut store[..size], &d[..n])
 }
 
 // One line of the script.
-fn run(p: Pair, store: &mut [u8], line: &[u8]) -> Pair {
-    script::name(line);
+fn run(rt: &impl Print, p: Pair, store: &mut [u8], line: &[u8]) -> io::Result<Pair> {
+    script::name(rt, line)?;
     let call = script::call(line);
     if call == b'o' {
-        return opens(line);
+        return opens(rt, line);
     }
     if call == b's' {
-        return sends(p, line);
+        return sends(rt, p, line);
     }
     if call == b'i' {
-        return arrives(p, store, line);
+        return arrives(rt, p, store, line);
     }
-    bytes(p, store, line)
+    bytes(rt, p, store, line)
 }
 
 // The records before the first line.
@@ -134,19 +135,17 @@ fn begin() -> Pair {
 }
 
 // Every line of the script.
-fn runs(text: &[u8], store: &mut [u8]) {
+fn runs(rt: &impl Print, text: &[u8], store: &mut [u8]) -> io::Result<()> {
     let mut p = begin();
-    let mut from = 0;
-    while from < text.len() {
-        let end = script::end(text, from);
-        p = run(p, store, &text[from..end]);
-        from = end + 1;
+    for line in script::lines(text) {
+        p = run(rt, p, store, line)?;
     }
+    Ok(())
 }
 
-fn main() {
+fn main(rt: HostRuntime) -> io::Result<()> {
     let mut store = [0x55u8; 39201];
     let mut text = [0u8; 16384];
-    let n = io::read_full(0, &mut text);
-    runs(&text[..n], &mut store);
+    let n = script::read(&mut rt.stdin(), &mut text)?;
+    runs(&rt, &text[..n], &mut store)
 }

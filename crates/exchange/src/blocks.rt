@@ -23,13 +23,11 @@ fn byte(k: u32, i: usize) -> u8 {
 // Writes block k, and answers its length.
 pub(crate) fn make(out: &mut [u8], k: u32) -> usize {
     let n = length(k);
-    let mut i = 0;
-    while i < n {
+    for i in 0..n {
         if out.len() <= i {
             return i;
         }
         out[i] = byte(k, i);
-        i += 1;
     }
     n
 }
@@ -39,15 +37,13 @@ pub(crate) fn is(block: &[u8], n: usize, k: u32) -> bool {
     if n != length(k) {
         return false;
     }
-    let mut i = 0;
-    while i < n {
+    for i in 0..n {
         if block.len() <= i {
             return false;
         }
         if block[i] != byte(k, i) {
             return false;
         }
-        i += 1;
     }
     true
 }

@@ -7,6 +7,7 @@ mod channel;
 mod ends;
 
 use ends::End;
+use std::io;
 
 // How many blocks each end sends.
 const BLOCKS: u32 = 20000;
@@ -15,32 +16,32 @@ const BLOCKS: u32 = 20000;
 const STEPS: u32 = 1000000;
 
 // A word and a count.
-fn count(word: &[u8], n: u32) {
-    showing::number(word, n as u64);
+fn count(rt: &impl Print, word: &[u8], n: u32) -> io::Result<()> {
+    showing::number(rt, word, n as u64)
 }
 
 // What one end counted.
-fn counts(e: End) {
-    count(b" sent=", e.sent);
-    count(b" covered=", e.covered);
-    count(b" lost=", e.lost);
-    count(b" resent=", e.resent);
-    count(b" stopped=", e.stopped);
-    count(b" doubled=", e.doubled);
-    count(b" refused=", e.refused);
-    count(b" handed=", e.handed);
-    count(b" wrong=", e.wrong);
+fn counts(rt: &impl Print, e: End) -> io::Result<()> {
+    count(rt, b" sent=", e.sent)?;
+    count(rt, b" covered=", e.covered)?;
+    count(rt, b" lost=", e.lost)?;
+    count(rt, b" resent=", e.resent)?;
+    count(rt, b" stopped=", e.stopped)?;
+    count(rt, b" doubled=", e.doubled)?;
+    count(rt, b" refused=", e.refused)?;
+    count(rt, b" handed=", e.handed)?;
+    count(rt, b" wrong=", e.wrong)
 }
 
 // What one end counted, and its records.
-fn shown(name: &[u8], e: End) {
-    io::write_all(1, name);
-    counts(e);
-    io::write_all(1, b"\nsender");
-    showing_records::sender(e.sender);
-    io::write_all(1, b"\nreceiver");
-    showing_records::receiver(e.receiver);
-    io::write_all(1, b"\n");
+fn shown(rt: &impl Print, name: &[u8], e: End) -> io::Result<()> {
+    rt.write_all(name)?;
+    counts(rt, e)?;
+    rt.write_all(b"\nsender")?;
+    showing_records::sender(rt, e.sender)?;
+    rt.write_all(b"\nreceiver")?;
+    showing_records::receiver(rt, e.receiver)?;
+    rt.write_all(b"\n")
 }
 
 // Has an end been handed everything?
@@ -65,19 +66,20 @@ fn finished(here: End, there: End) -> bool {
 }
 
 // What both ends show.
-fn report(steps: u32, here: End, there: End) {
-    count(b"ticks=", steps);
-    io::write_all(1, b"\n");
-    shown(b"here:", here);
-    shown(b"there:", there);
+fn report(rt: &impl Print, steps: u32, here: End, there: End) -> io::Result<()> {
+    count(rt, b"ticks=", steps)?;
+    rt.write_all(b"\n")?;
+    shown(rt, b"here:", here)?;
+    shown(rt, b"there:", there)?;
     if all(here) {
         if all(there) {
-            io::write_all(1, b"every block was handed over once and in order\n");
+            rt.write_all(b"every block was handed over once and in order\n")?;
         }
     }
+    Ok(())
 }
 
-fn main() {
+fn main(rt: HostRuntime) -> io::Result<()> {
     let mut here = ends::opened(60000, 65000);
     let mut there = ends::opened(60000, 65000);
     let mut herestore = [0u8; 39200];
@@ -118,5 +120,5 @@ fn main() {
         tick = std::num::wrapping_add_u32(tick, 1);
         step += 1;
     }
-    report(step, here, there);
+    report(&rt, step, here, there)
 }

@@ -7,6 +7,7 @@ mod packets;
 use common::Written;
 use receiver::Receiver;
 use sender::Sender;
+use std::io;
 
 // An endpoint's records, and what was counted.
 #[derive(Clone, Copy)]
@@ -49,7 +50,7 @@ fn packet(r: Run, store: &mut [u8], k: u32) -> Run {
 }
 
 // Takes the block due, if it is held.
-fn takes(r: Run, store: &[u8]) -> Run {
+fn takes(rt: &impl Print, r: Run, store: &[u8]) -> io::Result<Run> {
     let mut block = [0u8; 64];
     let got = taking::take(r.receiver, store, &mut block);
     let q = got.receiver;
@@ -57,10 +58,10 @@ fn takes(r: Run, store: &[u8]) -> Run {
     next.receiver = q;
     let w = got.written;
     if let Written::Wrote(n) = w {
-        io::write_all(1, b" ");
-        showing::bytes(&block, n);
+        rt.write_all(b" ")?;
+        showing::bytes(rt, &block, n)?;
     }
-    next
+    Ok(next)
 }
 
 // A packet arrives, and every third time once more.
@@ -73,45 +74,55 @@ fn comes(r: Run, store: &mut [u8], i: u32, k: u32) -> Run {
 }
 
 // The set, in the order that begins at start and goes on by this factor, with a take every so often.
-fn all(r: Run, store: &mut [u8], factor: u32, start: u32, every: u32) -> Run {
+fn all(
+    rt: &impl Print,
+    r: Run,
+    store: &mut [u8],
+    factor: u32,
+    start: u32,
+    every: u32,
+) -> io::Result<Run> {
     let mut q = r;
     let mut k = start;
-    let mut i: u32 = 0;
-    while i < 32 {
+    for i in 0..32u32 {
         q = comes(q, store, i, k);
         k = packets::next(k, factor);
         if packets::ends(every, i) {
-            q = takes(q, store);
+            q = takes(rt, q, store)?;
         }
-        i += 1;
     }
-    q
+    Ok(q)
 }
 
 // Takes what is ready.
-fn rest(r: Run, store: &[u8]) -> Run {
+fn rest(rt: &impl Print, r: Run, store: &[u8]) -> io::Result<Run> {
     let mut q = r;
-    let mut i: u32 = 0;
-    while i < 32 {
-        q = takes(q, store);
-        i += 1;
+    for _ in 0..32 {
+        q = takes(rt, q, store)?;
     }
-    q
+    Ok(q)
 }
 
 // The counts and the records at the end.
-fn shown(r: Run) {
-    showing::number(b"\naccepted=", r.accepted as u64);
-    showing::number(b" refused=", r.refused as u64);
-    io::write_all(1, b"\nreceiver");
-    showing_records::receiver(r.receiver);
-    io::write_all(1, b"\nsender");
-    showing_records::sender(r.sender);
-    io::write_all(1, b"\n");
+fn shown(rt: &impl Print, r: Run) -> io::Result<()> {
+    showing::number(rt, b"\naccepted=", r.accepted as u64)?;
+    showing::number(rt, b" refused=", r.refused as u64)?;
+    rt.write_all(b"\nreceiver")?;
+    showing_records::receiver(rt, r.receiver)?;
+    rt.write_all(b"\nsender")?;
+    showing_records::sender(rt, r.sender)?;
+    rt.write_all(b"\n")
 }
 
 // One order, from a fresh endpoint.
-fn order(name: &[u8], store: &mut [u8], factor: u32, start: u32, every: u32) {
+fn order(
+    rt: &impl Print,
+    name: &[u8],
+    store: &mut [u8],
+    factor: u32,
+    start: u32,
+    every: u32,
+) -> io::Result<()> {
     let o = endpoint::open(packets::FIRSTDATA, packets::FIRSTCHANNEL, 300);
     let s = o.sender;
     let q = o.receiver;
@@ -121,29 +132,45 @@ fn order(name: &[u8], store: &mut [u8], factor: u32, start: u32, every: u32) {
         accepted: 0,
         refused: 0,
     };
-    io::write_all(1, name);
-    io::write_all(1, b"\nhanded:");
-    let a = all(r, store, factor, start, every);
-    shown(rest(a, store));
+    rt.write_all(name)?;
+    rt.write_all(b"\nhanded:")?;
+    let a = all(rt, r, store, factor, start, every)?;
+    shown(rt, rest(rt, a, store)?)
 }
 
-fn main() {
+fn main(rt: HostRuntime) -> io::Result<()> {
     let mut store = [0u8; 39200];
-    order(b"forward, a take after each", &mut store, 1, 0, 1);
+    order(&rt, b"forward, a take after each", &mut store, 1, 0, 1)?;
     order(
+        &rt,
         b"backward, a take after every fourth",
         &mut store,
         31,
         31,
         4,
-    );
-    order(b"by fives, a take after every second", &mut store, 5, 0, 2);
-    order(b"by elevens from 7, no take between", &mut store, 11, 7, 40);
+    )?;
     order(
+        &rt,
+        b"by fives, a take after every second",
+        &mut store,
+        5,
+        0,
+        2,
+    )?;
+    order(
+        &rt,
+        b"by elevens from 7, no take between",
+        &mut store,
+        11,
+        7,
+        40,
+    )?;
+    order(
+        &rt,
         b"by thirteens from 21, a take after every third",
         &mut store,
         13,
         21,
         3,
-    );
+    )
 }

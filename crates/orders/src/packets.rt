@@ -96,8 +96,7 @@ fn byte(b: u32, i: usize) -> u8 {
 // The bytes of a block: its own number in front, and behind it bytes that differ by their place; one more than its number.
 fn fills(out: &mut [u8], k: u32) -> usize {
     let b = block(k);
-    let mut i = 0;
-    while i < 33 {
+    for i in 0..33usize {
         if out.len() <= i {
             return i;
         }
@@ -105,9 +104,8 @@ fn fills(out: &mut [u8], k: u32) -> usize {
             return i;
         }
         out[i] = byte(b, i);
-        i += 1;
     }
-    i
+    33
 }
 
 // Writes packet k, and answers its length.

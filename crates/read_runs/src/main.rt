@@ -3,118 +3,117 @@
 // come: the first is the packet's seventh, the eighth is the prefix.
 #![tactic(auto)]
 
+use std::io;
 use wire::{Ack, Delay, Packet, Reading, Vector};
 
 // The values of an ACK.
-fn ack(a: Ack) {
-    showing::some(b" ack=", a.number as u64);
-    showing::some(b" acktime=", a.time as u64);
-    showing::some(b" ackgap=", a.gap as u64);
-    showing::some(b" count=", a.count as u64);
-    showing::some(b" scale=", a.scale as u64);
+fn ack(rt: &impl Print, a: Ack) -> io::Result<()> {
+    showing::some(rt, b" ack=", a.number as u64)?;
+    showing::some(rt, b" acktime=", a.time as u64)?;
+    showing::some(rt, b" ackgap=", a.gap as u64)?;
+    showing::some(rt, b" count=", a.count as u64)?;
+    showing::some(rt, b" scale=", a.scale as u64)
 }
 
 // The values of a DelayAckInfo.
-fn delay(y: Delay) {
-    showing::some(b" most=", y.most as u64);
-    showing::some(b" delay=", y.timeout as u64);
+fn delay(rt: &impl Print, y: Delay) -> io::Result<()> {
+    showing::some(rt, b" most=", y.most as u64)?;
+    showing::some(rt, b" delay=", y.timeout as u64)
 }
 
 // The values of a vector.
-fn vector(x: Vector) {
-    showing::some(b" base=", x.base as u64);
-    showing::some(b" size=", x.size as u64);
+fn vector(rt: &impl Print, x: Vector) -> io::Result<()> {
+    showing::some(rt, b" base=", x.base as u64)?;
+    showing::some(rt, b" size=", x.size as u64)?;
     if x.timed {
-        io::write_all(1, b" timed");
+        rt.write_all(b" timed")?;
     }
-    showing::some(b" time=", x.time as u64);
-    showing::some(b" gap=", x.gap as u64);
+    showing::some(rt, b" time=", x.time as u64)?;
+    showing::some(rt, b" gap=", x.gap as u64)
 }
 
 // Bytes of a datagram: the place at which they stand, and which they are.
-fn part(word: &[u8], d: &[u8], at: usize, n: usize) {
+fn part(rt: &impl Print, word: &[u8], d: &[u8], at: usize, n: usize) -> io::Result<()> {
     if at == 0 {
-        return;
+        return Ok(());
     }
-    showing::number(word, at as u64);
-    io::write_all(1, b":");
+    showing::number(rt, word, at as u64)?;
+    rt.write_all(b":")?;
     if d.len() < 8 {
-        return;
+        return Ok(());
     }
     if d.len() < at {
-        return;
+        return Ok(());
     }
     if d.len() - at < n {
-        return;
+        return Ok(());
     }
     if wire::LONGEST_DATAGRAM < n {
-        return;
+        return Ok(());
     }
     let mut bytes = [0u8; wire::LONGEST_DATAGRAM];
     parts::copy_part(&mut bytes, 0, d, at, n);
-    showing::bytes(&bytes, n);
+    showing::bytes(rt, &bytes, n)
 }
 
 // The values of a packet.
-fn values(p: Packet) {
+fn values(rt: &impl Print, p: Packet) -> io::Result<()> {
     let v = p.values;
-    showing::number(b" answer=0 flags=", v.flags as u64);
-    showing::some(b" logwindow=", v.logwindow as u64);
-    ack(v.ack);
-    showing::some(b" overhead=", v.overhead as u64);
-    delay(v.delay);
-    showing::some(b" aoa=", v.aoa as u64);
-    showing::some(b" data=", v.number as u64);
-    vector(v.vector);
-    showing::some(b" channel=", v.channel as u64);
+    showing::number(rt, b" answer=0 flags=", v.flags as u64)?;
+    showing::some(rt, b" logwindow=", v.logwindow as u64)?;
+    ack(rt, v.ack)?;
+    showing::some(rt, b" overhead=", v.overhead as u64)?;
+    delay(rt, v.delay)?;
+    showing::some(rt, b" aoa=", v.aoa as u64)?;
+    showing::some(rt, b" data=", v.number as u64)?;
+    vector(rt, v.vector)?;
+    showing::some(rt, b" channel=", v.channel as u64)
 }
 
 // The bytes of a packet that have a length of their own.
-fn parts(p: Packet, d: &[u8]) {
+fn parts(rt: &impl Print, p: Packet, d: &[u8]) -> io::Result<()> {
     let v = p.values;
     let a = v.ack;
     let x = v.vector;
-    part(b" additions=", d, p.additions, a.count as usize);
-    part(b" coded=", d, p.vector, x.size as usize);
-    part(b" block=", d, p.body, p.bytes);
-    showing::some(b" bytes=", p.bytes as u64);
+    part(rt, b" additions=", d, p.additions, a.count as usize)?;
+    part(rt, b" coded=", d, p.vector, x.size as usize)?;
+    part(rt, b" block=", d, p.body, p.bytes)?;
+    showing::some(rt, b" bytes=", p.bytes as u64)
 }
 
 // Reads a datagram, and shows what it says.
-fn show(d: &[u8]) {
+fn show(rt: &impl Print, d: &[u8]) -> io::Result<()> {
     match reader::read(d) {
-        Reading::Refused(n) => showing::number(b" answer=", n as u64),
+        Reading::Refused(n) => showing::number(rt, b" answer=", n as u64)?,
         Reading::Dummy => {
-            io::write_all(1, b" answer=0 type=8");
+            rt.write_all(b" answer=0 type=8")?;
         }
         Reading::Read(p) => {
-            values(p);
-            parts(p, d);
+            values(rt, p)?;
+            parts(rt, p, d)?;
         }
     }
-    io::write_all(1, b"\n");
+    rt.write_all(b"\n")
 }
 
 // One line of the script.
-fn run(line: &[u8]) {
+fn run(rt: &impl Print, line: &[u8]) -> io::Result<()> {
     let mut d = [0u8; 1233];
     let n = script::bytes(line, b"bytes=", &mut d);
-    script::name(line);
-    show(&d[..n]);
+    script::name(rt, line)?;
+    show(rt, &d[..n])
 }
 
 // Every line of the script.
-fn runs(text: &[u8]) {
-    let mut from = 0;
-    while from < text.len() {
-        let end = script::end(text, from);
-        run(&text[from..end]);
-        from = end + 1;
+fn runs(rt: &impl Print, text: &[u8]) -> io::Result<()> {
+    for line in script::lines(text) {
+        run(rt, line)?;
     }
+    Ok(())
 }
 
-fn main() {
+fn main(rt: HostRuntime) -> io::Result<()> {
     let mut text = [0u8; 16384];
-    let n = io::read_full(0, &mut text);
-    runs(&text[..n]);
+    let n = script::read(&mut rt.stdin(), &mut text)?;
+    runs(&rt, &text[..n])
 }

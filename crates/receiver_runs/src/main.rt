@@ -5,6 +5,7 @@
 
 use numbers::{ChannelNumber, DataNumber};
 use receiver::{Hold, Receiver};
+use std::io;
 
 // A record with these numbers, and nothing received.
 fn stands(line: &[u8]) -> Receiver {
@@ -23,67 +24,67 @@ fn stands(line: &[u8]) -> Receiver {
 }
 
 // The end of a line: the record and the store.
-fn left(r: Receiver, store: &[u8]) {
-    showing_records::receiver(r);
-    showing::sum(b" store=", store, store.len());
-    io::write_all(1, b"\n");
+fn left(rt: &impl Print, r: Receiver, store: &[u8]) -> io::Result<()> {
+    showing_records::receiver(rt, r)?;
+    showing::sum(rt, b" store=", store, store.len())?;
+    rt.write_all(b"\n")
 }
 
 // A datagram arrives.
-fn receives(r: Receiver, store: &mut [u8], d: &[u8]) -> Receiver {
+fn receives(rt: &impl Print, r: Receiver, store: &mut [u8], d: &[u8]) -> io::Result<Receiver> {
     let got = arriving::receive(r, store, d);
     let q = got.receiver;
-    showing::number(b" answer=", got.answer as u64);
-    left(q, store);
-    q
+    showing::number(rt, b" answer=", got.answer as u64)?;
+    left(rt, q, store)?;
+    Ok(q)
 }
 
 // A packet arrives, with the store or with a part of it.
-fn arrives(r: Receiver, store: &mut [u8], line: &[u8]) -> Receiver {
+fn arrives(rt: &impl Print, r: Receiver, store: &mut [u8], line: &[u8]) -> io::Result<Receiver> {
     let mut d = [0u8; 1232];
     let n = script_packets::make(line, &mut d);
     let size = script::lent(line, b"store=", window::STORE, 39201);
     if store.len() < size {
-        return r;
+        return Ok(r);
     }
-    receives(r, &mut store[..size], &d[..n])
+    receives(rt, r, &mut store[..size], &d[..n])
 }
 
 // A take into this buffer.
-fn taken(r: Receiver, store: &[u8], out: &mut [u8]) -> Receiver {
+fn taken(rt: &impl Print, r: Receiver, store: &[u8], out: &mut [u8]) -> io::Result<Receiver> {
     showing::fill(out);
     let got = taking::take(r, store, out);
     let q = got.receiver;
     let w = got.written;
-    showing::answered(w, out);
-    left(q, store);
-    q
+    showing::answered(rt, w, out)?;
+    left(rt, q, store)?;
+    Ok(q)
 }
 
 // A take into room for so many bytes, from the store or from a part of it.
-fn takes(r: Receiver, store: &[u8], line: &[u8]) -> Receiver {
+fn takes(rt: &impl Print, r: Receiver, store: &[u8], line: &[u8]) -> io::Result<Receiver> {
     let mut out = [0u8; 1225];
     let room = script::lent(line, b"room=", 0, 1225);
     let size = script::lent(line, b"store=", window::STORE, 39201);
     if store.len() < size {
-        return r;
+        return Ok(r);
     }
-    taken(r, &store[..size], &mut out[..room])
+    taken(rt, r, &store[..size], &mut out[..room])
 }
 
 // An acknowledgement into this buffer.
-fn acknowledged(r: Receiver, out: &mut [u8]) {
+fn acknowledged(rt: &impl Print, r: Receiver, out: &mut [u8]) -> io::Result<()> {
     showing::fill(out);
     let w = reporting::acknowledge(r, 0x1234567, 7, out);
-    showing::answered(w, out);
-    io::write_all(1, b"\n");
+    showing::answered(rt, w, out)?;
+    rt.write_all(b"\n")
 }
 
 // An acknowledgement into room for so many bytes.
-fn acknowledges(r: Receiver, line: &[u8]) {
+fn acknowledges(rt: &impl Print, r: Receiver, line: &[u8]) -> io::Result<()> {
     let mut out = [0u8; 64];
     let room = script::lent(line, b"room=", 0, 64);
-    acknowledged(r, &mut out[..room]);
+    acknowledged(rt, r, &mut out[..room])
 }
 
 // A fresh record.
@@ -95,46 +96,44 @@ fn opened(line: &[u8]) -> Receiver {
 }
 
 // Shows a record.
-fn shown(r: Receiver) -> Receiver {
-    showing_records::receiver(r);
-    io::write_all(1, b"\n");
-    r
+fn shown(rt: &impl Print, r: Receiver) -> io::Result<Receiver> {
+    showing_records::receiver(rt, r)?;
+    rt.write_all(b"\n")?;
+    Ok(r)
 }
 
 // One line of the script.
-fn run(r: Receiver, store: &mut [u8], line: &[u8]) -> Receiver {
-    script::name(line);
+fn run(rt: &impl Print, r: Receiver, store: &mut [u8], line: &[u8]) -> io::Result<Receiver> {
+    script::name(rt, line)?;
     let call = script::call(line);
     if call == b'o' {
-        return shown(opened(line));
+        return shown(rt, opened(line));
     }
     if call == b'r' {
-        return shown(stands(line));
+        return shown(rt, stands(line));
     }
     if call == b'i' {
-        return arrives(r, store, line);
+        return arrives(rt, r, store, line);
     }
     if call == b't' {
-        return takes(r, store, line);
+        return takes(rt, r, store, line);
     }
-    acknowledges(r, line);
-    r
+    acknowledges(rt, r, line)?;
+    Ok(r)
 }
 
 // Every line of the script.
-fn runs(text: &[u8], store: &mut [u8]) {
+fn runs(rt: &impl Print, text: &[u8], store: &mut [u8]) -> io::Result<()> {
     let mut r = receiver::opened(0, 0);
-    let mut from = 0;
-    while from < text.len() {
-        let end = script::end(text, from);
-        r = run(r, store, &text[from..end]);
-        from = end + 1;
+    for line in script::lines(text) {
+        r = run(rt, r, store, line)?;
     }
+    Ok(())
 }
 
-fn main() {
+fn main(rt: HostRuntime) -> io::Result<()> {
     let mut store = [0x55u8; 39201];
     let mut text = [0u8; 16384];
-    let n = io::read_full(0, &mut text);
-    runs(&text[..n], &mut store);
+    let n = script::read(&mut rt.stdin(), &mut text)?;
+    runs(&rt, &text[..n], &mut store)
 }

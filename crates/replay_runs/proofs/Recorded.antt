@@ -1,6 +1,5 @@
 -- What recording an event wrote fits the buffer that it was lent.
-use Rattle.std.proofs.Common.{◌≡◌, ℕ, ◌+◌, ◌-◌, ◌≤◌, Bool, true, false, not, ltb, List, [], ◌∷◌, length, take, drop, sym, refl, ◌∙◌, arith, length-drop, length-take, ltb-false}
-use Rattle.common.specs.declared.Written.{Written}
+use Rattle.std.proofs.Common.{◌≡◌, ℕ, ◌+◌, ◌-◌, ◌≤◌, Bool, true, false, not, ltb, List, [], ◌∷◌, length, take, drop, refl, arith, length-drop, length-take, ltb-false}
 use Rattle.common.specs.declared.Written.TheVariants.{Wrote}
 use Rattle.common.specs.Order.{test, first}
 use Rattle.common.specs.Answer.{written_of}
@@ -18,9 +17,9 @@ event_fits k tick kind bytes room w =
     by_tests k room (event_text tick kind bytes) (not (event_good kind (length bytes))) (ltb room (length (event_text tick kind bytes))) refl w
 
 -- from place at on
-pub recorded_fits : {k : ℕ} {w : Written} (tick kind : ℕ) (bytes out : List ℕ) (at : ℕ) → at ≤ length out → w ≡ Wrote k
-    → w ≡ written_of (event_answer tick kind bytes (length (take (length out - at) (drop at out)))) (event_text tick kind bytes) → at + k ≤ length out
-recorded_fits {k} {w} tick kind bytes out at h v e =
+pub recorded_fits : {k : ℕ} (tick kind : ℕ) (bytes out : List ℕ) (at : ℕ) → at ≤ length out
+    → Wrote k ≡ written_of (event_answer tick kind bytes (length (take (length out - at) (drop at out)))) (event_text tick kind bytes) → at + k ≤ length out
+recorded_fits {k} tick kind bytes out at h e =
     let part = take (length out - at) (drop at out) in
-    let f : k ≤ length part = event_fits k tick kind bytes (length part) (sym v ∙ e) in
+    let f : k ≤ length part = event_fits k tick kind bytes (length part) e in
     omega (arith, length-take (length out - at) (drop at out), length-drop at out)

@@ -3,38 +3,38 @@
 // replays. The calls of the script are `replay`, `event` and `head`.
 #![tactic(auto)]
 
+use std::io;
+
 mod recording;
 mod replaying;
 
 // One line of the script.
-fn run(line: &[u8]) {
-    script::name(line);
+fn run(rt: &impl Print, line: &[u8]) -> io::Result<()> {
+    script::name(rt, line)?;
     let call = script::call(line);
     if call == b'r' {
-        replaying::traced(line);
+        replaying::traced(rt, line)?;
     }
     if call == b'e' {
-        recording::events(line);
+        recording::events(rt, line)?;
     }
     if call == b'h' {
-        recording::heads(line);
+        recording::heads(rt, line)?;
     }
-    io::write_all(1, b"\n");
+    rt.write_all(b"\n")
 }
 
 // Every line of the script.
-fn runs(text: &[u8]) {
-    let mut from = 0;
-    while from < text.len() {
-        let end = script::end(text, from);
-        run(&text[from..end]);
-        from = end + 1;
+fn runs(rt: &impl Print, text: &[u8]) -> io::Result<()> {
+    for line in script::lines(text) {
+        run(rt, line)?;
     }
+    Ok(())
 }
 
-fn main() {
+fn main(rt: HostRuntime) -> io::Result<()> {
     let mut text = [0u8; 16384];
-    let n = io::read_full(0, &mut text);
-    runs(&text[..n]);
-    recording::recorded();
+    let n = script::read(&mut rt.stdin(), &mut text)?;
+    runs(&rt, &text[..n])?;
+    recording::recorded(&rt)
 }

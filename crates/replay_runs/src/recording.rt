@@ -3,6 +3,7 @@ ghost use Rattle.std.specs.Prelude.{◌≤◌, length};
 
 use crate::replaying;
 use common::Written;
+use std::io;
 
 // Records the head; the result is the next free place.
 fn head(out: &mut [u8]) -> usize
@@ -47,23 +48,23 @@ fn morning(out: &mut [u8]) -> usize
 }
 
 // Shows a trace as it is, and then its replay.
-fn shown(trace: &[u8]) {
-    io::write_all(1, b"a recorded morning:\n");
-    io::write_all(1, trace);
-    io::write_all(1, b"its replay:");
-    replaying::replays(trace);
-    io::write_all(1, b"\n");
+fn shown(rt: &impl Print, trace: &[u8]) -> io::Result<()> {
+    rt.write_all(b"a recorded morning:\n")?;
+    rt.write_all(trace)?;
+    rt.write_all(b"its replay:")?;
+    replaying::replays(rt, trace)?;
+    rt.write_all(b"\n")
 }
 
 // Records a morning, and shows it.
-pub(crate) fn recorded() {
+pub(crate) fn recorded(rt: &impl Print) -> io::Result<()> {
     let mut out = [0u8; 512];
     let n = morning(&mut out);
-    shown(&out[..n]);
+    shown(rt, &out[..n])
 }
 
 // An event into this buffer.
-fn tells(line: &[u8], bytes: &[u8], out: &mut [u8]) {
+fn tells(rt: &impl Print, line: &[u8], bytes: &[u8], out: &mut [u8]) -> io::Result<()> {
     showing::fill(out);
     let w = trace_writing::event(
         (script::number(line, b"tick=") % 4294967296) as u32,
@@ -71,20 +72,20 @@ fn tells(line: &[u8], bytes: &[u8], out: &mut [u8]) {
         bytes,
         out,
     );
-    showing::answered(w, out);
+    showing::answered(rt, w, out)
 }
 
 // An event of a line of the script, into room for so many bytes.
-pub(crate) fn events(line: &[u8]) {
+pub(crate) fn events(rt: &impl Print, line: &[u8]) -> io::Result<()> {
     let mut bytes = [0u8; 64];
     let mut out = [0u8; 256];
     let n = script::bytes(line, b"bytes=", &mut bytes);
     let room = script::lent(line, b"room=", 0, 256);
-    tells(line, &bytes[..n], &mut out[..room]);
+    tells(rt, line, &bytes[..n], &mut out[..room])
 }
 
 // A head into this buffer.
-fn begins(line: &[u8], out: &mut [u8]) {
+fn begins(rt: &impl Print, line: &[u8], out: &mut [u8]) -> io::Result<()> {
     showing::fill(out);
     let w = trace_head::head(
         (script::number(line, b"firstdata=") % 4294967296) as u32,
@@ -92,12 +93,12 @@ fn begins(line: &[u8], out: &mut [u8]) {
         (script::number(line, b"timeout=") % 4294967296) as u32,
         out,
     );
-    showing::answered(w, out);
+    showing::answered(rt, w, out)
 }
 
 // A head of a line of the script, into room for so many bytes.
-pub(crate) fn heads(line: &[u8]) {
+pub(crate) fn heads(rt: &impl Print, line: &[u8]) -> io::Result<()> {
     let mut out = [0u8; 256];
     let room = script::lent(line, b"room=", 0, 256);
-    begins(line, &mut out[..room]);
+    begins(rt, line, &mut out[..room])
 }

@@ -3,6 +3,7 @@
 ghost use Rattle.std.specs.Prelude.{◌≡◌, ◌≤◌, length};
 
 use common::Written;
+use std::io;
 
 // The beginning of most traces: a head, and a send at tick 0.
 const BEGINNING: [u8; 79] =
@@ -24,49 +25,44 @@ fn nothing(b: u8) -> bool {
 
 // Is every number of a record's line 0?
 fn zero(line: &[u8]) -> bool {
-    let mut i = script::find(line, 0, b'=');
-    while i < line.len() {
-        if !nothing(line[i]) {
+    for b in line.iter().skip(script::find(line, 0, b'=')) {
+        if !nothing(*b) {
             return false;
         }
-        i += 1;
     }
     true
 }
 
 // Shows an answer's line, or a record's that is not 0.
-fn shown(line: &[u8]) {
+fn shown(rt: &impl Print, line: &[u8]) -> io::Result<()> {
     if 0 < line.len() {
         if line[0] != b'a' {
             if zero(line) {
-                return;
+                return Ok(());
             }
         }
     }
-    io::write_all(1, b" ");
-    io::write_all(1, line);
+    rt.write_all(b" ")?;
+    rt.write_all(line)
 }
 
 // Shows an output.
-fn output(text: &[u8]) {
+fn output(rt: &impl Print, text: &[u8]) -> io::Result<()> {
     let mut n: u64 = 0;
-    let mut from = 0;
-    while from < text.len() {
-        let end = script::end(text, from);
-        shown(&text[from..end]);
+    for line in script::lines(text) {
+        shown(rt, line)?;
         n = std::num::wrapping_add_u64(n, 1);
-        from = end + 1;
     }
-    showing::number(b" lines=", n);
+    showing::number(rt, b" lines=", n)
 }
 
 // Replays a trace, and shows its output.
-pub(crate) fn replays(trace: &[u8]) {
+pub(crate) fn replays(rt: &impl Print, trace: &[u8]) -> io::Result<()> {
     let mut text = [0u8; replayer::ROOM];
     let Written::Wrote(k) = replayer::replay(trace, &mut text) else {
-        return;
+        return Ok(());
     };
-    output(&text[..k]);
+    output(rt, &text[..k])
 }
 
 // Lays text over out from place at on, if it fits; the result is the next free place.
@@ -129,17 +125,15 @@ fn lays(line: &[u8], out: &mut [u8]) -> usize
 {
     let zeros = script::number(line, b"zeros=");
     let mut at = 0;
-    let mut i = script::value(line, b"trace=");
-    while i < line.len() {
-        at = sign(out, at, line[i], zeros);
-        i += 1;
+    for b in line.iter().skip(script::value(line, b"trace=")) {
+        at = sign(out, at, *b, zeros);
     }
     at
 }
 
 // Replays the trace of a line.
-pub(crate) fn traced(line: &[u8]) {
+pub(crate) fn traced(rt: &impl Print, line: &[u8]) -> io::Result<()> {
     let mut trace = [b'0'; ROOM];
     let n = lays(line, &mut trace);
-    replays(&trace[..n]);
+    replays(rt, &trace[..n])
 }

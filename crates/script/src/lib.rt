@@ -3,7 +3,11 @@
 // give is 0, or no bytes.
 #![tactic(auto)]
 
-ghost use Rattle.std.specs.Prelude.{◌≤◌, ◌<◌, length};
+ghost use Rattle.std.specs.Prelude.{◌≤◌, ◌<◌, length, IfOk};
+ghost use Rattle.std.specs.Iterator.{at_most};
+
+use std::io;
+use std::io::Read;
 
 // What stands between two words, behind a name, and at the end of a line.
 const BLANK: u8 = 32;
@@ -15,33 +19,78 @@ const NEWLINE: u8 = 10;
 // What stands before the number of bytes, where there are more than are given.
 const STAR: u8 = 42;
 
+// Reads a script: fills text as far as the input goes, and answers how many bytes that is. What stands behind the end of text is left unread.
+pub fn read<R: Read>(input: &mut R, text: &mut [u8]) -> io::Result<usize>
+    ensures { IfOk result (λ n. n ≤ length text.old) }
+{
+    let mut n = 0;
+    while n < text.len() {
+        let more = input.read(&mut text[n..])?;
+        if more == 0 {
+            break;
+        }
+        n += more;
+    }
+    Ok(n)
+}
+
 // Where a byte first stands from place from on, or the end of the text.
 pub fn find(text: &[u8], from: usize, x: u8) -> usize
     requires { from ≤ length text.now }
-    ensures { (from ≤ result) × (result ≤ length text.now) }
+    ensures from { from ≤ result }
+    ensures within { result ≤ length text.now }
 {
-    let mut i = from;
-    while i < text.len() {
+    for i in from..text.len() {
         if text[i] == x {
             return i;
         }
-        i += 1;
     }
-    i
+    text.len()
 }
 
 // Where the line that begins at this place ends.
 pub fn end(text: &[u8], from: usize) -> usize
     requires { from ≤ length text.now }
-    ensures { (from ≤ result) × (result ≤ length text.now) }
+    ensures from { from ≤ result }
+    ensures within { result ≤ length text.now }
 {
     find(text, from, NEWLINE)
+}
+
+// The lines of a script that are still to come.
+#[derive(Drop)]
+pub struct LinesLeft<'a>(&'a [u8]);
+
+// The lines of a script, in turn.
+pub fn lines(text: &[u8]) -> LinesLeft<'_> {
+    LinesLeft(text)
+}
+
+impl<'a> Iterator for LinesLeft<'a> {
+    type Item = &'a [u8];
+
+    ghost remaining = { λ s. at_most (length s.0.now) };
+
+    fn next(&mut self) -> Option<&'a [u8]> {
+        let text = self.0;
+        if text.is_empty() {
+            return None;
+        }
+        let n = end(text, 0);
+        self.0 = if n < text.len() {
+            &text[n + 1..]
+        } else {
+            &text[n..]
+        };
+        Some(&text[..n])
+    }
 }
 
 // The place behind the next blank, or the end of the line.
 fn after(line: &[u8], from: usize) -> usize
     requires { from < length line.now }
-    ensures { (from < result) × (result ≤ length line.now) }
+    ensures from { from < result }
+    ensures within { result ≤ length line.now }
 {
     let at = find(line, from, BLANK);
     if at < line.len() {
@@ -59,12 +108,10 @@ fn behind(line: &[u8], at: usize, key: &[u8]) -> usize
     if line.len() - at < n {
         return 0;
     }
-    let mut i = 0;
-    while i < n {
+    for i in 0..n {
         if line[at + i] != key[i] {
             return 0;
         }
-        i += 1;
     }
     at + n
 }
@@ -85,10 +132,10 @@ pub fn value(line: &[u8], key: &[u8]) -> usize
 }
 
 // Writes a line's name, with its colon.
-pub fn name(line: &[u8]) {
+pub fn name(rt: &impl Print, line: &[u8]) -> io::Result<()> {
     let n = find(line, 0, COLON);
-    io::write_all(1, &line[..n]);
-    io::write_all(1, b":");
+    rt.write_all(&line[..n])?;
+    rt.write_all(b":")
 }
 
 // The first letter of the call, by which calls are told apart; 0 where a line has no call.
@@ -107,20 +154,17 @@ pub fn call(line: &[u8]) -> u8 {
 // The number in decimal that stands at a place, as far as its digits go; at most some ten thousand millions.
 fn decimal(line: &[u8], from: usize) -> u64 {
     let mut value: u64 = 0;
-    let mut i = from;
-    while i < line.len() {
-        let d = line[i];
-        if d < 48 {
+    for d in line.iter().skip(from) {
+        if *d < 48 {
             return value;
         }
-        if 57 < d {
+        if 57 < *d {
             return value;
         }
         if 10000000000 < value {
             return value;
         }
-        value = value * 10 + (d - 48) as u64;
-        i += 1;
+        value = value * 10 + (*d - 48) as u64;
     }
     value
 }
@@ -166,8 +210,7 @@ fn decode(line: &[u8], from: usize, out: &mut [u8]) -> usize
     ensures { result ≤ length out.old }
 {
     let mut at = from;
-    let mut i = 0;
-    while i < out.len() {
+    for (i, b) in out.iter_mut().enumerate() {
         if line.len() <= at {
             return i;
         }
@@ -184,10 +227,9 @@ fn decode(line: &[u8], from: usize, out: &mut [u8]) -> usize
             return i;
         }
         at += 1;
-        out[i] = high * 16 + low;
-        i += 1;
+        *b = high * 16 + low;
     }
-    i
+    out.len()
 }
 
 // So many bytes as a number says, at most as many as there are.

@@ -6,6 +6,7 @@
 
 use numbers::{ChannelNumber, DataNumber};
 use sender::{BlockPlace, NumberPlace, Sender};
+use std::io;
 
 // A record with these numbers, and nothing sent.
 fn stands(line: &[u8]) -> Sender {
@@ -66,32 +67,39 @@ fn opened(line: &[u8]) -> Sender {
 }
 
 // The end of a line: the record, and the store.
-fn left(s: Sender, store: &[u8]) {
-    showing_records::sender(s);
-    showing::sum(b" store=", store, store.len());
-    io::write_all(1, b"\n");
+fn left(rt: &impl Print, s: Sender, store: &[u8]) -> io::Result<()> {
+    showing_records::sender(rt, s)?;
+    showing::sum(rt, b" store=", store, store.len())?;
+    rt.write_all(b"\n")
 }
 
 // Shows a record.
-fn shown(s: Sender) -> Sender {
-    showing_records::sender(s);
-    io::write_all(1, b"\n");
-    s
+fn shown(rt: &impl Print, s: Sender) -> io::Result<Sender> {
+    showing_records::sender(rt, s)?;
+    rt.write_all(b"\n")?;
+    Ok(s)
 }
 
 // A new block into this buffer.
-fn sent(s: Sender, store: &mut [u8], tick: u32, block: &[u8], out: &mut [u8]) -> Sender {
+fn sent(
+    rt: &impl Print,
+    s: Sender,
+    store: &mut [u8],
+    tick: u32,
+    block: &[u8],
+    out: &mut [u8],
+) -> io::Result<Sender> {
     showing::fill(out);
     let got = sending::send(s, store, tick, block, out);
     let q = got.sender;
     let w = got.written;
-    showing::answered(w, out);
-    left(q, store);
-    q
+    showing::answered(rt, w, out)?;
+    left(rt, q, store)?;
+    Ok(q)
 }
 
 // A new block, with room for so many bytes, and with the store or a part of it.
-fn sends(s: Sender, store: &mut [u8], line: &[u8]) -> Sender {
+fn sends(rt: &impl Print, s: Sender, store: &mut [u8], line: &[u8]) -> io::Result<Sender> {
     let mut out = [0u8; 1233];
     let mut block = [0u8; 1224];
     let room = script::lent(line, b"room=", 0, 1233);
@@ -99,9 +107,16 @@ fn sends(s: Sender, store: &mut [u8], line: &[u8]) -> Sender {
     let n = script::bytes(line, b"block=", &mut block);
     let tick = script_packets::long(line, b"tick=");
     if store.len() < size {
-        return s;
+        return Ok(s);
     }
-    sent(s, &mut store[..size], tick, &block[..n], &mut out[..room])
+    sent(
+        rt,
+        s,
+        &mut store[..size],
+        tick,
+        &block[..n],
+        &mut out[..room],
+    )
 }
 
 // One of many blocks.
@@ -112,24 +127,23 @@ fn adds(s: Sender, store: &mut [u8], tick: u32) -> Sender {
 }
 
 // So many new blocks of one byte, at this tick.
-fn added(s: Sender, store: &mut [u8], tick: u32, n: u64) -> Sender {
+fn added(rt: &impl Print, s: Sender, store: &mut [u8], tick: u32, n: u64) -> io::Result<Sender> {
     let mut q = s;
-    let mut i: u64 = 0;
-    while i < n {
+    for _ in 0..n {
         q = adds(q, store, tick);
-        i += 1;
     }
-    left(q, store);
-    q
+    left(rt, q, store)?;
+    Ok(q)
 }
 
 // So many new blocks of one byte, with the store or a part of it.
-fn many(s: Sender, store: &mut [u8], line: &[u8]) -> Sender {
+fn many(rt: &impl Print, s: Sender, store: &mut [u8], line: &[u8]) -> io::Result<Sender> {
     let size = script::lent(line, b"store=", window::STORE, 39201);
     if store.len() < size {
-        return s;
+        return Ok(s);
     }
     added(
+        rt,
         s,
         &mut store[..size],
         script_packets::long(line, b"tick="),
@@ -138,96 +152,100 @@ fn many(s: Sender, store: &mut [u8], line: &[u8]) -> Sender {
 }
 
 // A resend into this buffer.
-fn resent(s: Sender, store: &[u8], tick: u32, out: &mut [u8]) -> Sender {
+fn resent(
+    rt: &impl Print,
+    s: Sender,
+    store: &[u8],
+    tick: u32,
+    out: &mut [u8],
+) -> io::Result<Sender> {
     showing::fill(out);
     let got = resending::resend(s, store, tick, out);
     let q = got.sender;
     let w = got.written;
-    showing::answered(w, out);
-    left(q, store);
-    q
+    showing::answered(rt, w, out)?;
+    left(rt, q, store)?;
+    Ok(q)
 }
 
 // A resend, with room for so many bytes.
-fn resends(s: Sender, store: &[u8], line: &[u8]) -> Sender {
+fn resends(rt: &impl Print, s: Sender, store: &[u8], line: &[u8]) -> io::Result<Sender> {
     let mut out = [0u8; 1233];
     let room = script::lent(line, b"room=", 0, 1233);
     let size = script::lent(line, b"store=", window::STORE, 39201);
     let tick = script_packets::long(line, b"tick=");
     if store.len() < size {
-        return s;
+        return Ok(s);
     }
-    resent(s, &store[..size], tick, &mut out[..room])
+    resent(rt, s, &store[..size], tick, &mut out[..room])
 }
 
 // The answer of a call that is lent no store, and the record.
-fn told(answer: u8, s: Sender) {
-    showing::number(b" answer=", answer as u64);
-    showing_records::sender(s);
-    io::write_all(1, b"\n");
+fn told(rt: &impl Print, answer: u8, s: Sender) -> io::Result<()> {
+    showing::number(rt, b" answer=", answer as u64)?;
+    showing_records::sender(rt, s)?;
+    rt.write_all(b"\n")
 }
 
 // A packet with an acknowledgement arrives.
-fn arrives(s: Sender, line: &[u8]) -> Sender {
+fn arrives(rt: &impl Print, s: Sender, line: &[u8]) -> io::Result<Sender> {
     let mut d = [0u8; 1232];
     let n = script_packets::make(line, &mut d);
     let got = acknowledging::acknowledge(s, &d[..n]);
     let q = got.sender;
-    told(got.answer, q);
-    q
+    told(rt, got.answer, q)?;
+    Ok(q)
 }
 
 // A sweep.
-fn sweeps(s: Sender, line: &[u8]) -> Sender {
+fn sweeps(rt: &impl Print, s: Sender, line: &[u8]) -> io::Result<Sender> {
     let got = sweeping::sweep(s, script_packets::long(line, b"tick="));
     let q = got.sender;
-    showing::number(b" lost=", got.lost as u64);
-    told(got.answer, q);
-    q
+    showing::number(rt, b" lost=", got.lost as u64)?;
+    told(rt, got.answer, q)?;
+    Ok(q)
 }
 
 // One line of the script.
-fn run(s: Sender, store: &mut [u8], line: &[u8]) -> Sender {
-    script::name(line);
+fn run(rt: &impl Print, s: Sender, store: &mut [u8], line: &[u8]) -> io::Result<Sender> {
+    script::name(rt, line)?;
     let call = script::call(line);
     if call == b'o' {
-        return shown(opened(line));
+        return shown(rt, opened(line));
     }
     if call == b'r' {
-        return shown(stands(line));
+        return shown(rt, stands(line));
     }
     if call == b'w' {
-        return shown(waiting(line));
+        return shown(rt, waiting(line));
     }
     if call == b'n' {
-        return sends(s, store, line);
+        return sends(rt, s, store, line);
     }
     if call == b'm' {
-        return many(s, store, line);
+        return many(rt, s, store, line);
     }
     if call == b'a' {
-        return resends(s, store, line);
+        return resends(rt, s, store, line);
     }
     if call == b'i' {
-        return arrives(s, line);
+        return arrives(rt, s, line);
     }
-    sweeps(s, line)
+    sweeps(rt, s, line)
 }
 
 // Every line of the script.
-fn runs(text: &[u8], store: &mut [u8]) {
+fn runs(rt: &impl Print, text: &[u8], store: &mut [u8]) -> io::Result<()> {
     let mut s = sender::opened(0, 0, 300);
-    let mut from = 0;
-    while from < text.len() {
-        let end = script::end(text, from);
-        s = run(s, store, &text[from..end]);
-        from = end + 1;
+    for line in script::lines(text) {
+        s = run(rt, s, store, line)?;
     }
+    Ok(())
 }
 
-fn main() {
+fn main(rt: HostRuntime) -> io::Result<()> {
     let mut store = [0x55u8; 39201];
     let mut text = [0u8; 24576];
-    let n = io::read_full(0, &mut text);
-    runs(&text[..n], &mut store);
+    let n = script::read(&mut rt.stdin(), &mut text)?;
+    runs(&rt, &text[..n], &mut store)
 }

@@ -3,56 +3,50 @@
 #![tactic(auto)]
 
 use common::Written;
+use std::io;
 
 // So many bytes at the front and at the end of a long text are shown.
 const PART: usize = 16;
 
 // Fills a buffer: each byte is its place modulo 251.
 pub fn fill(out: &mut [u8]) {
-    let mut i = 0;
-    while i < out.len() {
-        out[i] = (i % 251) as u8;
-        i += 1;
+    for (i, b) in out.iter_mut().enumerate() {
+        *b = (i % 251) as u8;
     }
 }
 
 // Fills a block: each byte is 255 less its place modulo 251, so that none is as `fill` leaves that place.
 pub fn content(out: &mut [u8]) {
-    let mut i = 0;
-    while i < out.len() {
-        out[i] = 255 - (i % 251) as u8;
-        i += 1;
+    for (i, b) in out.iter_mut().enumerate() {
+        *b = 255 - (i % 251) as u8;
     }
 }
 
 // A word and a number.
-pub fn number(word: &[u8], n: u64) {
-    io::write_all(1, word);
-    io::print_decimal(1, n);
+pub fn number(rt: &impl Print, word: &[u8], n: u64) -> io::Result<()> {
+    rt.write_all(word)?;
+    print!(rt; "{n}")
 }
 
 // The same where the number is not 0.
-pub fn some(word: &[u8], n: u64) {
+pub fn some(rt: &impl Print, word: &[u8], n: u64) -> io::Result<()> {
     if n != 0 {
-        number(word, n);
+        number(rt, word, n)?;
     }
+    Ok(())
 }
 
 // One byte in hexadecimal.
-fn byte(b: u8) {
-    io::print_hex(1, b as u64, 2);
+fn byte(rt: &impl Print, b: u8) -> io::Result<()> {
+    print!(rt; "{b:02x}")
 }
 
 // The bytes from one place up to another in hexadecimal.
-fn span(b: &[u8], from: usize, to: usize) {
-    let mut i = from;
-    while i < to {
-        if b.len() <= i {
-            return;
-        }
-        byte(b[i]);
-        i += 1;
+fn span(rt: &impl Print, b: &[u8], from: usize, to: usize) -> io::Result<()> {
+    for x in b.iter().take(to).skip(from) {
+        byte(rt, *x)?;
     }
+    Ok(())
 }
 
 // One step of a sum: another byte at another place gives another.
@@ -61,29 +55,23 @@ fn step(sum: u64, b: u8) -> u64 {
 }
 
 // The sum of the first n bytes, which another byte, another place or another length changes.
-pub fn sum(word: &[u8], b: &[u8], n: usize) {
+pub fn sum(rt: &impl Print, word: &[u8], b: &[u8], n: usize) -> io::Result<()> {
     let mut s: u64 = 0;
-    let mut i = 0;
-    while i < n {
-        if b.len() <= i {
-            break;
-        }
-        s = step(s, b[i]);
-        i += 1;
+    for x in b.iter().take(n) {
+        s = step(s, *x);
     }
-    number(word, s);
+    number(rt, word, s)
 }
 
 // The first n bytes in hexadecimal; of more than 32 the first and the last 16, and the sum of all.
-pub fn bytes(b: &[u8], n: usize) {
+pub fn bytes(rt: &impl Print, b: &[u8], n: usize) -> io::Result<()> {
     if n <= 2 * PART {
-        span(b, 0, n);
-        return;
+        return span(rt, b, 0, n);
     }
-    span(b, 0, PART);
-    io::write_all(1, b"..");
-    span(b, n - PART, n);
-    sum(b" sum=", b, n);
+    span(rt, b, 0, PART)?;
+    rt.write_all(b"..")?;
+    span(rt, b, n - PART, n)?;
+    sum(rt, b" sum=", b, n)
 }
 
 // Is this byte as it was filled?
@@ -92,30 +80,28 @@ fn filled(i: usize, b: u8) -> bool {
 }
 
 // How many bytes from place from on are not as they were filled.
-pub fn touched(out: &[u8], from: usize) {
+pub fn touched(rt: &impl Print, out: &[u8], from: usize) -> io::Result<()> {
     let mut n: u64 = 0;
-    let mut i = from;
-    while i < out.len() {
-        if !filled(i, out[i]) {
-            n = std::num::wrapping_add_u64(n, 1);
+    for (i, b) in out.iter().enumerate().skip(from) {
+        if !filled(i, *b) {
+            n = n.wrapping_add(1);
         }
-        i += 1;
     }
-    number(b" touched=", n);
+    number(rt, b" touched=", n)
 }
 
 // The answer of a call that writes into a buffer that was filled: how many bytes it wrote and which, and how many others it touched.
-pub fn answered(w: Written, out: &[u8]) {
+pub fn answered(rt: &impl Print, w: Written, out: &[u8]) -> io::Result<()> {
     match w {
         Written::Refused(n) => {
-            number(b" answer=", n as u64);
-            touched(out, 0);
+            number(rt, b" answer=", n as u64)?;
+            touched(rt, out, 0)
         }
         Written::Wrote(k) => {
-            number(b" answer=0 bytes=", k as u64);
-            io::write_all(1, b" ");
-            bytes(out, k);
-            touched(out, k);
+            number(rt, b" answer=0 bytes=", k as u64)?;
+            rt.write_all(b" ")?;
+            bytes(rt, out, k)?;
+            touched(rt, out, k)
         }
     }
 }

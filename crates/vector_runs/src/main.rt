@@ -6,15 +6,15 @@
 
 ghost use Rattle.std.specs.Prelude.{◌<◌, ◌≤◌, length};
 
+use std::io;
+
 // The longest range of states.
 const MOST: usize = 256;
 
 // The states that a byte gives its numbers, the i-th as bit i of a number; those past the 63rd are not in it.
 fn states(b: u8) -> u64 {
     let mut n: u64 = 0;
-    let mut i: u8 = 63;
-    while 0 < i {
-        i -= 1;
+    for i in (0..63u8).rev() {
         n = twice(n, vector::state(b, i));
     }
     n
@@ -30,22 +30,21 @@ fn twice(n: u64, s: bool) -> u64 {
 }
 
 // What one byte says.
-fn says(b: u8) {
-    showing::number(b" ", vector::span(b) as u64);
-    showing::number(b":", vector::received(b) as u64);
-    showing::number(b":", states(b));
+fn says(rt: &impl Print, b: u8) -> io::Result<()> {
+    showing::number(rt, b" ", vector::span(b) as u64)?;
+    showing::number(rt, b":", vector::received(b) as u64)?;
+    showing::number(rt, b":", states(b))
 }
 
 // What each byte says, 16 to a line.
-fn all() {
-    let mut i: u32 = 0;
-    while i < 256 {
-        says((i % 256) as u8);
-        if i % 16 == 15 {
-            io::write_all(1, b"\n");
+fn all(rt: &impl Print) -> io::Result<()> {
+    for b in 0..=255u8 {
+        says(rt, b)?;
+        if b % 16 == 15 {
+            rt.write_all(b"\n")?;
         }
-        i += 1;
     }
+    Ok(())
 }
 
 // So many states in a row, from place at on, as far as there is room; the result is the place behind them.
@@ -54,14 +53,12 @@ fn run(states: &mut [bool], at: usize, n: u64, s: bool) -> usize
     ensures { result ≤ length states.old }
 {
     let mut to = at;
-    let mut i: u64 = 0;
-    while i < n {
+    for _ in 0..n {
         if states.len() <= to {
             return to;
         }
         states[to] = s;
         to += 1;
-        i += 1;
     }
     to
 }
@@ -77,36 +74,34 @@ fn given(line: &[u8], states: &mut [bool]) -> usize
 }
 
 // Writes the vector of these states into this buffer.
-fn written(states: &[bool], out: &mut [u8]) {
+fn written(rt: &impl Print, states: &[bool], out: &mut [u8]) -> io::Result<()> {
     showing::fill(out);
     let w = coder::write(states, out);
-    showing::answered(w, out);
-    io::write_all(1, b"\n");
+    showing::answered(rt, w, out)?;
+    rt.write_all(b"\n")
 }
 
 // One line of the script.
-fn line(line: &[u8]) {
+fn line(rt: &impl Print, line: &[u8]) -> io::Result<()> {
     let mut states = [false; MOST];
     let mut out = [0u8; 64];
     let n = given(line, &mut states);
     let room = script::lent(line, b"room=", 0, 64);
-    script::name(line);
-    written(&states[..n], &mut out[..room]);
+    script::name(rt, line)?;
+    written(rt, &states[..n], &mut out[..room])
 }
 
 // Every line of the script.
-fn lines(text: &[u8]) {
-    let mut from = 0;
-    while from < text.len() {
-        let end = script::end(text, from);
-        line(&text[from..end]);
-        from = end + 1;
+fn lines(rt: &impl Print, text: &[u8]) -> io::Result<()> {
+    for each in script::lines(text) {
+        line(rt, each)?;
     }
+    Ok(())
 }
 
-fn main() {
-    all();
+fn main(rt: HostRuntime) -> io::Result<()> {
+    all(&rt)?;
     let mut text = [0u8; 4096];
-    let n = io::read_full(0, &mut text);
-    lines(&text[..n]);
+    let n = script::read(&mut rt.stdin(), &mut text)?;
+    lines(&rt, &text[..n])
 }

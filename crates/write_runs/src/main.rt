@@ -1,17 +1,26 @@
 // Writes the values of a script, on both sides of the boundary of each refusal, and shows one line for each: its name, what writing answers, the
 // bytes of an accepted datagram, and how many other bytes of the lent buffer were touched.
-// Writes a packet of these bytes into this buffer, and shows the answer.
 #![tactic(auto)]
 
-fn show(line: &[u8], additions: &[u8], coded: &[u8], block: &[u8], out: &mut [u8]) {
+use std::io;
+
+// Writes a packet of these bytes into this buffer, and shows the answer.
+fn show(
+    rt: &impl Print,
+    line: &[u8],
+    additions: &[u8],
+    coded: &[u8],
+    block: &[u8],
+    out: &mut [u8],
+) -> io::Result<()> {
     showing::fill(out);
     let w = writer::write(script_packets::values(line), additions, coded, block, out);
-    showing::answered(w, out);
-    io::write_all(1, b"\n");
+    showing::answered(rt, w, out)?;
+    rt.write_all(b"\n")
 }
 
 // One line of the script.
-fn run(line: &[u8]) {
+fn run(rt: &impl Print, line: &[u8]) -> io::Result<()> {
     let mut additions = [0u8; 16];
     let mut coded = [0u8; 128];
     let mut block = [0u8; 1226];
@@ -20,28 +29,27 @@ fn run(line: &[u8]) {
     let c = script::bytes(line, b"coded=", &mut coded);
     let b = script::bytes(line, b"block=", &mut block);
     let n = script::lent(line, b"room=", 0, 1233);
-    script::name(line);
+    script::name(rt, line)?;
     show(
+        rt,
         line,
         &additions[..a],
         &coded[..c],
         &block[..b],
         &mut out[..n],
-    );
+    )
 }
 
 // Every line of the script.
-fn runs(text: &[u8]) {
-    let mut from = 0;
-    while from < text.len() {
-        let end = script::end(text, from);
-        run(&text[from..end]);
-        from = end + 1;
+fn runs(rt: &impl Print, text: &[u8]) -> io::Result<()> {
+    for line in script::lines(text) {
+        run(rt, line)?;
     }
+    Ok(())
 }
 
-fn main() {
+fn main(rt: HostRuntime) -> io::Result<()> {
     let mut text = [0u8; 16384];
-    let n = io::read_full(0, &mut text);
-    runs(&text[..n]);
+    let n = script::read(&mut rt.stdin(), &mut text)?;
+    runs(&rt, &text[..n])
 }

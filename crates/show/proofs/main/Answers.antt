@@ -1,0 +1,10 @@
+-- What `lines` wrote fits the array that it was lent.
+use Rattle.std.proofs.Common.{◌≤◌, sym, arith, length-take-le}
+use Rattle.listing.specs.Laws.{written_fits}
+use Rattle.show.proofs.main.Goals as goal
+
+pub slice_bounds-text-end : goal.slice_bounds-text-end
+slice_bounds-text-end c = let h : c.in-Wrote.k ≤ 512 = written_fits _ _ _ c.in-Wrote.ensures.answer in omega arith
+
+pub slice_bounds-write_all-end : goal.slice_bounds-write_all-end
+slice_bounds-write_all-end c = let h : c.in-Wrote.k ≤ 512 = written_fits _ _ _ c.in-Wrote.ensures.answer in sym (length-take-le _ _ (omega arith))
