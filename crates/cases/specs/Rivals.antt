@@ -3,7 +3,7 @@
 use Rattle.std.specs.Prelude.{ℕ, ◌+◌, ◌-◌, true, false, List, [], ◌∷◌, ◌++◌, ◌≡◌, refl, length, get_or}
 use Rattle.vector.specs.Says.{says_of, bits_of, states_in, states_of, names, Shortest}
 use Rattle.vector.specs.Rule.{alike, run_of, map_of, byte_of, covers_of, bytes_by, vector_of}
-use Rattle.vector.specs.NoVectorIsShorter.{no_vector_is_shorter}
+use Rattle.vector.proofs.NoVectorIsShorter.{no_vector_is_shorter}
 use Rattle.cases.specs.Cases.{numbers, named_from, named_by, states_for}
 
 -- the received numbers from a base on, the rule's vector for them, its rival, and how many bytes more the rival has

@@ -7,7 +7,7 @@ use Rattle.common.specs.Answer.{written_of, left_of}
 use Rattle.common.specs.Order.{first_pass}
 use Rattle.vector.specs.Says.{Shortest}
 use Rattle.vector.specs.Rule.{vector_of}
-use Rattle.vector.specs.NoVectorIsShorter.{no_vector_is_shorter}
+use Rattle.vector.proofs.NoVectorIsShorter.{no_vector_is_shorter}
 use Rattle.wire.specs.Same.{coded_in, Says}
 use Rattle.wire.specs.Round.Accepted.{wrote}
 use Rattle.receiver.specs.declared.Receiver.{Receiver}

@@ -1,8 +1,6 @@
--- Acknowledgement vectors: what a byte says, the rule that writes them, that what is written reads back, and that no vector is shorter.
+-- Acknowledgement vectors: what a byte says, the rule that writes them, and that what is written reads back. That no vector is shorter stands in proofs/.
 pub mod Says
 pub mod Rule
 pub mod Laws
 pub mod Reading
 pub mod ReadsBack
-pub mod Reach
-pub mod NoVectorIsShorter

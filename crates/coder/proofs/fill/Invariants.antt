@@ -8,7 +8,7 @@ use Rattle.vector.specs.Rule.{vector_of}
 use Rattle.coder.proofs.fill.Given as goal
 
 abbrev pub invariant-loop-i : goal.invariant-loop-i
-invariant-loop-i l =     (l.i ≤ length l.states)
+invariant-loop-i l = (l.i ≤ length l.states)
     × (length l.out ≡ length l.initial.out)
     × (l.j + length (vector_of (drop l.i l.states)) ≤ length l.out)
     × (put_of l.out l.j (vector_of (drop l.i l.states)) ≡ put_of l.initial.out 0 (vector_of l.states))

@@ -7,7 +7,7 @@ use Rattle.vector.specs.Rule.{alike, run_of}
 use Rattle.coder.proofs.run_at.Given as goal
 
 abbrev pub invariant-loop-n : goal.invariant-loop-n
-invariant-loop-n l =     (1 ≤ l.n) × (l.n ≤ 63) × (l.i + l.n ≤ length l.states)
+invariant-loop-n l = (1 ≤ l.n) × (l.n ≤ 63) × (l.i + l.n ≤ length l.states)
     × (min 63 (l.n + alike l.s (drop (l.i + l.n) l.states)) ≡ run_of l.s (drop (l.i + 1) l.states))
 
 abbrev pub decreases-loop-n : goal.decreases-loop-n

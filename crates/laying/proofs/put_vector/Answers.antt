@@ -20,7 +20,7 @@ pub lay_byte-stamp-requires : goal.lay_byte-stamp-requires
 lay_byte-stamp-requires c = omega (arith, given_room _ (vector_bytes c.args.vector c.args.coded.now) _ _ c.if-flag.true c.requires.coded_in_bounds, vector_length c.args.vector c.args.coded.now, stamp_length c.args.vector)
 
 pub put_stamp-rest-requires : goal.put_stamp-rest-requires
-put_stamp-rest-requires c =  record { vector_in_bounds = omega (arith, given_room _ (vector_bytes c.args.vector c.args.coded.now) _ _ c.if-flag.true c.requires.coded_in_bounds, vector_length c.args.vector c.args.coded.now, stamp_length c.args.vector); time_value = (vector_fits_lem c.args.vector _ (not_both c.args.flag _ c.requires.coded_value c.if-flag.true)).time }
+put_stamp-rest-requires c = record { vector_in_bounds = omega (arith, given_room _ (vector_bytes c.args.vector c.args.coded.now) _ _ c.if-flag.true c.requires.coded_in_bounds, vector_length c.args.vector c.args.coded.now, stamp_length c.args.vector); time_value = (vector_fits_lem c.args.vector _ (not_both c.args.flag _ c.requires.coded_value c.if-flag.true)).time }
 
 pub lay-requires : goal.lay-requires
 lay-requires c = omega (arith, given_room _ (vector_bytes c.args.vector c.args.coded.now) _ _ c.if-flag.true c.requires.coded_in_bounds, vector_length c.args.vector c.args.coded.now, stamp_length c.args.vector)

@@ -27,7 +27,7 @@ pub returns-then-number-ne0 : goal.returns-then-number-ne0
 returns-then-number-ne0 c = let both = number_refused 32 _ _ _ _ (sym c.consistent.ensures ∙ c.if-not-consistent.false) (sym c.consistent-2.ensures ∙ c.if-not-consistent-2.false) c.if-store-ne-STORE.false _ c.read.ensures _ c.in-Read.is _ c.judge-told.ensures.answer c.if-told-ne0.false _ c.judge-arrived.ensures _ c.number-number.ensures c.if-number-ne0.true in record { answer = both.0; sender = both.1.0; receiver = both.1.1.0; bytes = both.1.1.1 }
 
 pub apply-q-requires : goal.apply-q-requires
-apply-q-requires c =  record { r_value = (sym c.consistent-2.ensures ∙ c.if-not-consistent-2.false); store_len = c.if-store-ne-STORE.false; d_value = sym c.read.ensures ∙ c.in-Read.is; a_value = c.judge-arrived.ensures }
+apply-q-requires c = record { r_value = (sym c.consistent-2.ensures ∙ c.if-not-consistent-2.false); store_len = c.if-store-ne-STORE.false; d_value = sym c.read.ensures ∙ c.in-Read.is; a_value = c.judge-arrived.ensures }
 
 pub returns-then-not-tells : goal.returns-then-not-tells
 returns-then-not-tells c = let both = accepted_silent 32 _ _ _ _ (sym c.consistent.ensures ∙ c.if-not-consistent.false) (sym c.consistent-2.ensures ∙ c.if-not-consistent-2.false) c.if-store-ne-STORE.false _ c.read.ensures _ c.in-Read.is _ c.judge-told.ensures.answer c.if-told-ne0.false _ c.judge-arrived.ensures _ c.number-number.ensures _ _ _ c.if-number-ne0.false c.tells.ensures c.if-not-tells.true c.apply-q.ensures.«record» c.apply-q.ensures.bytes in record { answer = both.0; sender = both.1.0; receiver = both.1.1.0; bytes = both.1.1.1 }

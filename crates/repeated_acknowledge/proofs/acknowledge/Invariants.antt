@@ -7,7 +7,7 @@ use Rattle.sender.specs.Acknowledge.{acknowledge_answer, acknowledge_of}
 use Rattle.repeated_acknowledge.proofs.acknowledge.Given as goal
 
 abbrev pub invariant-loop-i : goal.invariant-loop-i
-invariant-loop-i l =     (l.i ≤ l.n) × (l.from ≡ start_of l.bytes l.ends l.i)
+invariant-loop-i l = (l.i ≤ l.n) × (l.from ≡ start_of l.bytes l.ends l.i)
     × Going (on_part (acknowledge_of 32 32) l.bytes l.ends) (on_part (acknowledge_answer 32 32) l.bytes l.ends) l.initial.q l.q l.initial.answers l.answers l.i
 
 abbrev pub decreases-loop-i : goal.decreases-loop-i

@@ -16,7 +16,7 @@ pub returns-then-r-base : goal.returns-then-r-base
 returns-then-r-base c = let both = acknowledge_all 32 32 c.args.r c.args.stamp c.args.gap c.args.out.now _ c.consistent.ensures c.if-not-consistent.false _ _ c.if-r-base.true c.if-base-r.false (c.write_ack.ensures.answer, c.write_ack.ensures.bytes) in record { answer = both.0; bytes = both.1 }
 
 pub write_vector-requires : goal.write_vector-requires
-write_vector-requires c =  record { r_value = sym c.consistent.ensures ∙ c.if-not-consistent.false; base_lt_end = c.if-r-base.false }
+write_vector-requires c = record { r_value = sym c.consistent.ensures ∙ c.if-not-consistent.false; base_lt_end = c.if-r-base.false }
 
 pub returns : goal.returns
 returns c = let both = acknowledge_vector 32 32 c.args.r c.args.stamp c.args.gap c.args.out.now _ c.consistent.ensures c.if-not-consistent.false _ _ c.if-r-base.false (c.write_vector.ensures.answer, c.write_vector.ensures.bytes) in record { answer = both.0; bytes = both.1 }

@@ -5,7 +5,7 @@ use Rattle.sender_checking.proofs.Walking.{Going}
 use Rattle.sender_checking.proofs.walk_numbers.Given as goal
 
 abbrev pub invariant-loop-fits : goal.invariant-loop-fits
-invariant-loop-fits l =     (firstdata timeout logwindow : ℕ) → Going 32 (sender_of firstdata timeout logwindow l.numbers l.blocks l.low l.next l.firstchannel.0 l.channellow.0 l.channelnext.0) l.fits l.marks l.i
+invariant-loop-fits l = (firstdata timeout logwindow : ℕ) → Going 32 (sender_of firstdata timeout logwindow l.numbers l.blocks l.low l.next l.firstchannel.0 l.channellow.0 l.channelnext.0) l.fits l.marks l.i
 
 abbrev pub decreases-loop-fits : goal.decreases-loop-fits
 decreases-loop-fits l = l.span - l.i

@@ -20,8 +20,6 @@ returns-in_default-number c =
 
 pub returns : goal.returns
 returns c =
-    
-    
     first_both _ _ (sym c.starts.ensures ∙ c.if-not-starts.false) c.find-comma.ensures
     _ _ (sym c.in-Given.is ∙ c.number.ensures)
     (sym c.in-Given-number.is ∙ c.number-2.ensures)

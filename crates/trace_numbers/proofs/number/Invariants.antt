@@ -8,7 +8,7 @@ use Rattle.trace.specs.Numbers.{all_digits, leading_zero}
 use Rattle.trace_numbers.proofs.number.Given as goal
 
 abbrev pub invariant-loop-i : goal.invariant-loop-i
-invariant-loop-i l =     (l.i ≤ length l.text)
+invariant-loop-i l = (l.i ≤ length l.text)
     × (l.value ≤ 4294967295)
     × (leading_zero l.text ≡ false)
     × (all_digits (drop l.i l.text) ≡ all_digits l.text)

@@ -12,15 +12,12 @@ returns-then-equals c = here _ _ _ _ c.equals.ensures c.if-equals.true
 pub returns-then-equals-2 : goal.returns-then-equals-2
 unfolding kind_of
 returns-then-equals-2 c =
-    
     here _ _ _ _ c.equals-2.ensures c.if-equals-2.true
     ∙ skip _ _ _ _ c.equals.ensures c.if-equals.false
 
 pub returns-then-equals-3 : goal.returns-then-equals-3
 unfolding kind_of
 returns-then-equals-3 c =
-    
-    
     here _ _ _ _ c.equals-3.ensures c.if-equals-3.true
     ∙ skip _ _ _ _ c.equals-2.ensures c.if-equals-2.false
     ∙ skip _ _ _ _ c.equals.ensures c.if-equals.false
@@ -28,9 +25,6 @@ returns-then-equals-3 c =
 pub returns-then-equals-4 : goal.returns-then-equals-4
 unfolding kind_of
 returns-then-equals-4 c =
-    
-    
-    
     here _ _ _ _ c.equals-4.ensures c.if-equals-4.true
     ∙ skip _ _ _ _ c.equals-3.ensures c.if-equals-3.false
     ∙ skip _ _ _ _ c.equals-2.ensures c.if-equals-2.false
@@ -39,10 +33,6 @@ returns-then-equals-4 c =
 pub returns-then-equals-5 : goal.returns-then-equals-5
 unfolding kind_of
 returns-then-equals-5 c =
-    
-    
-    
-    
     here _ _ _ _ c.equals-5.ensures c.if-equals-5.true
     ∙ skip _ _ _ _ c.equals-4.ensures c.if-equals-4.false
     ∙ skip _ _ _ _ c.equals-3.ensures c.if-equals-3.false
@@ -52,11 +42,6 @@ returns-then-equals-5 c =
 pub returns-then-equals-6 : goal.returns-then-equals-6
 unfolding kind_of
 returns-then-equals-6 c =
-    
-    
-    
-    
-    
     here _ _ _ _ c.equals-6.ensures c.if-equals-6.true
     ∙ skip _ _ _ _ c.equals-5.ensures c.if-equals-5.false
     ∙ skip _ _ _ _ c.equals-4.ensures c.if-equals-4.false
@@ -67,11 +52,6 @@ returns-then-equals-6 c =
 pub returns : goal.returns
 unfolding kind_of
 returns c =
-    
-    
-    
-    
-    
     first_none
     ∙ skip _ _ _ _ c.equals-6.ensures c.if-equals-6.false
     ∙ skip _ _ _ _ c.equals-5.ensures c.if-equals-5.false

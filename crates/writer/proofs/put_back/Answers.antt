@@ -16,7 +16,7 @@ pub put_word_if-at1-requires : goal.put_word_if-at1-requires
 put_word_if-at1-requires c = omega (arith, c.requires.body_in_bounds, back_length c.args.v c.args.vector.now c.args.body.now, given_length _ _ (word_bytes c.args.v.number) c.flag-content.ensures)
 
 pub put_vector-at2-requires : goal.put_vector-at2-requires
-put_vector-at2-requires c =  record { coded_in_bounds = omega (arith, c.requires.body_in_bounds, back_length c.args.v c.args.vector.now c.args.body.now, given_length _ _ (word_bytes c.args.v.number) c.flag-content.ensures, given_length _ _ (vector_bytes c.args.v.vector c.args.vector.now) c.flag-isvector.ensures); coded_value = ap (λ (b : Bool). both b (vector_wide c.args.v.vector (length c.args.vector.now))) c.flag-isvector.ensures ∙ c.requires.vector_value }
+put_vector-at2-requires c = record { coded_in_bounds = omega (arith, c.requires.body_in_bounds, back_length c.args.v c.args.vector.now c.args.body.now, given_length _ _ (word_bytes c.args.v.number) c.flag-content.ensures, given_length _ _ (vector_bytes c.args.v.vector c.args.vector.now) c.flag-isvector.ensures); coded_value = ap (λ (b : Bool). both b (vector_wide c.args.v.vector (length c.args.vector.now))) c.flag-isvector.ensures ∙ c.requires.vector_value }
 
 pub put_body-requires : goal.put_body-requires
 put_body-requires c = omega (arith, c.requires.body_in_bounds, back_length c.args.v c.args.vector.now c.args.body.now, given_length _ _ (word_bytes c.args.v.number) c.flag-content.ensures, given_length _ _ (vector_bytes c.args.v.vector c.args.vector.now) c.flag-isvector.ensures, given_length _ _ (word_bytes c.args.v.channel ++ c.args.body.now) c.flag-content.ensures)

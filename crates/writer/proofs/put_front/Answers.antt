@@ -16,7 +16,7 @@ pub put_word-at1-requires : goal.put_word-at1-requires
 put_word-at1-requires c = omega (arith, c.requires.additions_in_bounds, front_length c.args.v c.args.additions.now)
 
 pub put_ack-at2-requires : goal.put_ack-at2-requires
-put_ack-at2-requires c =  record { additions_in_bounds = omega (arith, c.requires.additions_in_bounds, front_length c.args.v c.args.additions.now, given_length _ _ (ack_bytes c.args.v.ack c.args.additions.now) c.flag-isack.ensures); additions_value = ap (λ (b : Bool). both b (ack_wide c.args.v.ack (length c.args.additions.now))) c.flag-isack.ensures ∙ c.requires.additions_value }
+put_ack-at2-requires c = record { additions_in_bounds = omega (arith, c.requires.additions_in_bounds, front_length c.args.v c.args.additions.now, given_length _ _ (ack_bytes c.args.v.ack c.args.additions.now) c.flag-isack.ensures); additions_value = ap (λ (b : Bool). both b (ack_wide c.args.v.ack (length c.args.additions.now))) c.flag-isack.ensures ∙ c.requires.additions_value }
 
 pub put_byte_if-at3-requires : goal.put_byte_if-at3-requires
 put_byte_if-at3-requires c = omega (arith, c.requires.additions_in_bounds, front_length c.args.v c.args.additions.now, given_length _ _ (ack_bytes c.args.v.ack c.args.additions.now) c.flag-isack.ensures, given_length _ _ (c.args.v.overhead ∷ []) c.flag-isoverhead.ensures)

@@ -6,7 +6,7 @@ use Rattle.writer.proofs.Judging.{refused_tells, fits_tells}
 use Rattle.writer.proofs.write.Goals as goal
 
 pub put_datagram-requires : goal.put_datagram-requires
-put_datagram-requires c =  let both = fits_tells c.args.v c.args.additions.now c.args.vector.now c.args.body.now (length c.args.out.now) _ (sym c.in-Fits.is ∙ c.judge.ensures) in record { value = both.0; k_value = both.1 }
+put_datagram-requires c = let both = fits_tells c.args.v c.args.additions.now c.args.vector.now c.args.body.now (length c.args.out.now) _ (sym c.in-Fits.is ∙ c.judge.ensures) in record { value = both.0; k_value = both.1 }
 
 pub returns-in-Refused : goal.returns-in-Refused
 returns-in-Refused c = let t = refused_tells c.args.v c.args.additions.now c.args.vector.now c.args.body.now (length c.args.out.now) _ (sym c.in-Refused.is ∙ c.judge.ensures) in

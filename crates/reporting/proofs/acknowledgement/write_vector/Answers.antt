@@ -46,7 +46,7 @@ overflow_cast-values c =
     omega (
       arith,
       (vector_coded 32 c.args.r c.requires.r_value _ (states_done 32 c.args.r _ _ _ _ (omega arith) c.loop-i.invariant.2) c.write.result (replicate 32 0) _ (omega arith)
-      c.write.ensures.answer c.write.ensures.bytes c.in-Wrote.k c.in-Wrote.is).fits,
+          c.write.ensures.answer c.write.ensures.bytes c.in-Wrote.k c.in-Wrote.is).fits,
     )
 
 pub slice_bounds-write-end-4 : goal.slice_bounds-write-end-4

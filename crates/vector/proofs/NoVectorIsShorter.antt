@@ -7,7 +7,7 @@ use Rattle.vector.specs.Says.{states_of, names, Gives, Shortest}
 use Rattle.vector.specs.Rule.{vector_of}
 use Rattle.vector.specs.Reading.{states_reach}
 use Rattle.vector.specs.ReadsBack.{reads_back}
-use Rattle.vector.specs.Reach.{fewest_from}
+use Rattle.vector.proofs.Reach.{fewest_from}
 
 -- THE THEOREM. For any range of states, its last one missing too: of all byte strings that give every number of the range a state, and the right one, the
 -- rule's has the fewest bytes.
