@@ -1,5 +1,5 @@
 -- Copying a part of a datagram out. A part is n bytes from a place on; places count in the datagram with its first and eighth bytes exchanged,
--- as reading gives them: wire/specs/Layout's partOf. Order: 1, 3, 14.
+-- as reading gives them: wire/specs/Layout's part_of. Order: 1, 3, 14.
 use Rattle.std.specs.Prelude.{ℕ, ◌+◌, List, [], ◌∷◌, length, ltb}
 use Rattle.common.specs.Order.{Test, test, first}
 use Rattle.wire.specs.Flags.{either}

@@ -1,6 +1,6 @@
 -- Widening (document 01, "Two kinds of number", as W7 of document 02 changes it): "A 16-bit field is widened to the whole number
 -- congruent to it modulo 65,536" that lies from R − 32,767 to R + 32,767, and is unclear where there is none. Nearest.antt shows
--- that this is what widenOf gives, and that nothing else would do.
+-- that this is what widen_of gives, and that nothing else would do.
 use Rattle.std.specs.Prelude.{◌≡◌, ℕ, ◌+◌, ◌-◌, ◌%◌, Bool, true, cond, ◌==◌, nat_le, nat_lt, refl}
 use Rattle.numbers.specs.declared.Widened.{Widened}
 use Rattle.numbers.specs.declared.Widened.TheVariants.{At, Below, Unclear}

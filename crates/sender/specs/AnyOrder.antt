@@ -34,7 +34,7 @@ module _ (w cap : ℕ) (lw : 0 < w) (uw : w ≤ cap) (s : Sender) (h : consisten
       turned_only acknowledging_ends facts (ran ds)
       (turned_remembering (run w cap s ds).logwindow (turned_is acknowledging_ends facts (named_in w cap s ds))) refl
 
-  -- "all carrying the same LogWindowSize": that one is remembered if one of them is accepted (Accepted, which acceptedIn tests), and else the outset's.
+  -- "all carrying the same LogWindowSize": that one is remembered if one of them is accepted (Accepted, which accepted_in tests), and else the outset's.
   pub window_is : (k : ℕ) (ds : List (List ℕ)) → ((d : List ℕ) → In d ds → Sized k d)
       → (run w cap s ds).logwindow ≡ cond (accepted_in w cap s ds) k s.logwindow
   window_is k ds sized = run_window facts k ds sized (turned_none acknowledging_ends facts)

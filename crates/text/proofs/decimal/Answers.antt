@@ -61,11 +61,6 @@ bounds-digits-i-2 c = omega (arith, decimal_some c.loop-rest.rest)
 pub slice_bounds-lay-count : goal.slice_bounds-lay-count
 slice_bounds-lay-count c = omega arith
 
--- TODO goal slice-bounds-lay-end
--- part-lay-end c =
---     let l = c.before.before.before.loop in
---     omega (arith, length-set l.digits (l.i - 1) (48 + l.rest))
-
 pub lay-requires : goal.lay-requires
 lay-requires c = simp (length-take, length-drop, length-set) (omega arith)
 
