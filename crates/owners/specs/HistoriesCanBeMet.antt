@@ -1,17 +1,13 @@
 -- `HistoriesAreIsolated` is not proved of nothing: two runs of the owner with token 7 from the same empty list of forty, one alone, one with another owner between, who opens,
 -- is refused with 24 at 7's number, closes its own, and opens again. The runs agree at each opening of 7's, 7 has two sessions at once, and its answers are computed.
-use Rattle.std.specs.Prelude.{ℕ, false, List, [], ◌∷◌, ◌≡◌, refl, length, replicate}
+use Rattle.std.specs.Prelude.{ℕ, List, [], ◌∷◌, ◌≡◌, refl, replicate}
 use Rattle.std.proofs.Common.{arith}
 use Rattle.common.specs.Order.{first}
 use Rattle.endpoint.specs.Open.{open_answer, opened_of}
-use Rattle.endpoint.specs.Calls.{sweeps, answer_of, call_of}
 use Rattle.session.specs.Place.{blank, places, place_of, place_answer}
-use Rattle.session.specs.Call.{no_stores, calls, closes, done_of, made_of, lost_of}
+use Rattle.session.specs.Call.{no_stores, closes, done_of, made_of}
 use Rattle.session.specs.Open.{open_answer as opening_answer, opening_of, opened_for}
-use Rattle.session.specs.List.{outcome_of}
-use Rattle.owners.specs.View.{Numbered, view_from, view}
-use Rattle.owners.specs.Seeing.{Reply}
-use Rattle.owners.specs.Histories.{Box, Happens, mine, opening, other, other_opening, Foreign, mine_of, Has, has, Grant, grants}
+use Rattle.owners.specs.Histories.{Box, Happens, mine, opening, other, other_opening, Foreign, Has, has, grants}
 use Rattle.owners.specs.HistoriesAreIsolated.{histories}
 
 -- nothing is open

@@ -4,7 +4,7 @@ use Rattle.std.specs.Prelude.{ℕ, zero, suc, ◌+◌, ◌≤◌, ◌<◌, List,
 use Rattle.std.proofs.Common.{⊎_elim, sym, ◌∙◌, ap, subst, length-set, arith, le-ltb}
 use Rattle.window.specs.Store.{store_size}
 use Rattle.endpoint.specs.Open.{opened_of}
-use Rattle.endpoint.specs.Calls.{Endpoint, calls_of}
+use Rattle.endpoint.specs.Calls.{calls_of}
 use Rattle.endpoint.specs.Sound.{Sound}
 use Rattle.endpoint.specs.StaysSound.{call_keeps, reached_sound}
 use Rattle.session.specs.declared.Session.{Session}

@@ -1,9 +1,8 @@
 -- "A refusal changes no record and no lent byte" (document 01's demand 1), on the list: of any list, any number, token and stores, and anything that is asked, where the
 -- answer is not 0 the list, the stores and the lent output are as they were.
-use Rattle.std.specs.Prelude.{ℕ, List, [], ◌≡◌, refl, length, get_or, set}
+use Rattle.std.specs.Prelude.{ℕ, List, ◌≡◌, refl, length, get_or, set}
 use Rattle.std.proofs.Common.{⊎_elim, sym, ◌∙◌, ap, subst}
 use Rattle.common.specs.Answer.{left_of, left_refused}
-use Rattle.endpoint.specs.Calls.{Endpoint, answer_of, call_of}
 use Rattle.endpoint.specs.RefusedChangesNothing.{refused_changes_nothing}
 use Rattle.session.specs.declared.Session.{Session}
 use Rattle.session.specs.declared.Opening.{Opening}

@@ -1,7 +1,7 @@
 -- A session with the stores that its owner keeps for it is an endpoint, and the owner's call on it is the endpoint's call: the same answer, the same bytes, the same endpoint
 -- afterwards, though only one store is lent, or none. So the endpoint's theorems speak of every session, from its opening to its closing. This is the one place that
 -- looks into `answer_of`, `writes_of` and `call_of`: for each call, that it does not depend on what it is not lent.
-use Rattle.std.specs.Prelude.{ℕ, Bool, true, false, cond, List, ◌≡◌, refl, eqb}
+use Rattle.std.specs.Prelude.{ℕ, Bool, true, false, cond, ◌≡◌, refl, eqb}
 use Rattle.std.proofs.Common.{eqb-true}
 use Rattle.endpoint.specs.Open.{open_answer, opened_of, fresh_pair, zero_pair}
 use Rattle.endpoint.specs.Fresh as fresh

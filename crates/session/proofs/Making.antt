@@ -4,11 +4,9 @@ use mathlib.Core.List.{List, []}
 use mathlib.Core.Path.{◌≡◌, refl, sym, ◌∙◌, ap}
 use Rattle.common.specs.declared.Written.{Written}
 use Rattle.common.specs.declared.Written.TheVariants.{Refused}
-use Rattle.common.specs.Answer.{written_of, left_of, written_refused, left_refused}
+use Rattle.common.specs.Answer.{left_of, written_refused, left_refused}
 use Rattle.session.specs.declared.Session.{Session}
-use Rattle.session.specs.declared.Reached.{Reached}
 use Rattle.session.specs.declared.Filled.{Filled}
-use Rattle.session.specs.declared.Counted.{Counted}
 use Rattle.session.specs.Place.{place_answer}
 use Rattle.session.specs.Call.{Asked, Made, done_of, refused_by, made_of, made_refused, made_done}
 use Rattle.session.specs.Shapes.{reached_by, filled_by, counted_by}

@@ -1,7 +1,7 @@
 -- The owner's own call: what the sender's call ensures is what the definitions say of the session. n is the refusal before all others. Assumes that n is 0.
 use Prim.Native.Nat.{ℕ}
 use mathlib.Core.List.{List, []}
-use mathlib.Core.Path.{◌≡◌, refl, ◌∙◌, ap}
+use mathlib.Core.Path.{◌≡◌, ◌∙◌, ap}
 use Rattle.common.specs.declared.Written.{Written}
 use Rattle.common.specs.Answer.{written_of, left_of}
 use Rattle.sender.specs.declared.Sender.{Sender}

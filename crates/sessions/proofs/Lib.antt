@@ -1,2 +1,0 @@
--- Call rules that the walks cite.
-mod Works
