@@ -1,5 +1,4 @@
 -- `decimal` meets its contract, since the digits of what is left and the digits found are, at each turn of the loop, the digits of n.
--- a byte stored before place i comes before what stands from i on
 use borrow.Author.Rules.{rules}
 use native.Mathlib.Omega.{arith}
 use Prim.Native.Nat.{ℕ, suc, ◌+◌, ◌-◌, ◌%◌, ◌/◌, ◌≤◌, ◌<◌}
@@ -12,6 +11,7 @@ use Rattle.text.specs.Decimal.{decimal_of}
 use Rattle.text.specs.Laws.{decimal_small, decimal_more, decimal_longer, decimal_some, decimal_length}
 use Rattle.text.proofs.decimal.Goals as goal
 
+-- a byte stored before place i comes before what stands from i on
 stored : (ds : List ℕ) (i x : ℕ) → 0 < i → i ≤ length ds → drop (i - 1) (set ds (i - 1) x) ≡ x ∷ drop i ds
 stored ds i x p h =
     let k : suc (i - 1) ≡ i = omega arith in

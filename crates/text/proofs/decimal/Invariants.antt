@@ -1,5 +1,4 @@
 -- `decimal` meets its contract, since the digits of what is left and the digits found are, at each turn of the loop, the digits of n.
--- a byte stored before place i comes before what stands from i on
 use Prim.Native.Nat.{◌≤◌}
 use mathlib.Core.List.{◌++◌}
 use mathlib.Core.Path.{◌≡◌}
