@@ -1,4 +1,5 @@
 -- What a walk tells of the numbers, over any window w: whether one was never sent, and which are flagged.
+use Rattle.std.specs.Prelude.{Option, Some, None}
 use Prim.Native.Nat.{ℕ, suc, ◌+◌, ◌-◌, ◌%◌, ◌≤◌, ◌<◌}
 use mathlib.Core.Bool.{Bool, true, false, cond}
 use mathlib.Core.List.{List, [], ◌∷◌}
@@ -15,6 +16,15 @@ use Rattle.wire.specs.Flags.{both, either}
 use Rattle.window.specs.Places.{place_same}
 use Rattle.sender.specs.Acknowledge.{names_unsent}
 use Rattle.acknowledging.specs.Walk.{walk_of}
+
+-- was a number named that was never sent, and which flags are set if not?
+abbrev pub never_in : Option (List Bool) → Bool
+never_in None = true
+never_in (Some flags) = false
+
+abbrev pub flags_left : Option (List Bool) → List Bool
+flags_left None = []
+flags_left (Some flags) = flags
 
 -- the state that some states from n on give number m
 abbrev pub state_at : List Bool → ℕ → ℕ → Bool
@@ -78,7 +88,7 @@ both_true false b h = clash false h refl
 
 module _ (w : ℕ) where
   -- whether a number was never sent
-  pub walk_never : (ts : List Bool) (n next low : ℕ) (flags : List Bool) → (walk_of w ts n next low flags).never ≡ names_unsent ts n next
+  pub walk_never : (ts : List Bool) (n next low : ℕ) (flags : List Bool) → never_in (walk_of w ts n next low flags) ≡ names_unsent ts n next
   unfolding walk_of names_unsent
   walk_never [] n next low flags = refl
   walk_never (t ∷ ts) n next low flags =
@@ -132,7 +142,7 @@ module _ (w : ℕ) where
 
   -- A walk that ends flags the named numbers from low on.
   pub walk_flags : (ts : List Bool) (n next low : ℕ) (flags : List Bool) → length flags ≡ w → next ≤ low + w → names_unsent ts n next ≡ false → (m : ℕ) → low ≤ m → m < low + w
-      → get_or (walk_of w ts n next low flags).flags (m % w) false ≡ either (get_or flags (m % w) false) (state_at ts n m)
+      → get_or (flags_left (walk_of w ts n next low flags)) (m % w) false ≡ either (get_or flags (m % w) false) (state_at ts n m)
   unfolding walk_of names_unsent
   walk_flags [] n next low flags sz room un m l u = sym (ap (either (get_or flags (m % w) false)) (state_none n m) ∙ either_no (get_or flags (m % w) false))
   walk_flags (t ∷ ts) n next low flags sz room un m l u =
@@ -142,7 +152,7 @@ module _ (w : ℕ) where
       (λ (x : both t (leb next n) ≡ false).
       let rest : names_unsent ts (n + 1) next ≡ false = ap (λ (b : Bool). cond b true (names_unsent ts (n + 1) next)) (sym x) ∙ un in
       let k = walk_flags ts (n + 1) next low (set flags (n % w) new) (length-set flags (n % w) new ∙ sz) room rest m l u in
-      ap (λ (b : Bool). get_or (cond b (record { never = true; flags = flags }) (walk_of w ts (n + 1) next low (set flags (n % w) new))).flags (m % w) false) x ∙ k
+      ap (λ (b : Bool). get_or (flags_left (cond b None (walk_of w ts (n + 1) next low (set flags (n % w) new)))) (m % w) false) x ∙ k
       ∙ ap (λ (b : Bool). either b (state_at ts (n + 1) m)) (flag_step t n next low flags sz room x m l u)
       ∙ either_of_lem (get_or flags (m % w) false) (both t (eqb n m)) (state_at ts (n + 1) m) ∙ ap (either (get_or flags (m % w) false)) (sym (state_step t ts n m)))
       (bool (both t (leb next n)))

@@ -2,15 +2,21 @@
 use Prim.Native.Nat.{ℕ}
 use mathlib.Core.Bool.{Bool, true, false, cond}
 use mathlib.Core.List.{List}
-use mathlib.Core.Path.{◌≡◌, refl, sym, ◌∙◌}
+use mathlib.Core.Path.{◌≡◌, refl, sym, ◌∙◌, ap}
 use native.Mathlib.Omega.{arith}
 use borrow.Author.Tests.{ne_eqb, eqb-true}
 use lib.Dec.{eqb}
+use Rattle.std.specs.Prelude.{Ok, Err}
+use Rattle.std.specs.Result.{result_unwrap_or}
+use Rattle.common.specs.Answer.{is_answer, refusal_of, number_of, settled, number_settled}
+use Rattle.text.specs.Decimal.{decimal_of}
+use Rattle.text.specs.Lines.{line, comma}
 use Rattle.text.specs.Within.{LaidWithin, within_as}
-use Rattle.endpoint.specs.Calls.{Endpoint, receives, sends, resends, takes, sweeps, acknowledges}
+use Rattle.endpoint.specs.Calls.{Endpoint, receives, sends, resends, takes, sweeps, acknowledges, answer_of}
+use Rattle.endpoint.specs.Known.{answers_known}
 use Rattle.record_lines.specs.AnswerLine.{answer_line}
 use Rattle.calling.specs.declared.Called.{Called}
-use Rattle.calling.specs.Asks.{call_by}
+use Rattle.calling.specs.Asks.{call_by, lost_to}
 use Rattle.calling.specs.Does.{Does}
 use Rattle.answering.specs.Answers.{is_sweep, answer_for}
 
@@ -32,7 +38,22 @@ sweep_by kind tick bytes =
     sweep_of_lem tick bytes (eqb kind 1) (eqb kind 2) (eqb kind 3) (eqb kind 4) (eqb kind 5)
     (no 1 (λ q. omega arith)) (no 2 (λ q. omega arith)) (no 3 (λ q. omega arith)) (no 4 (λ q. omega arith))
 
-pub answer_laid : (e : Endpoint) (kind tick : ℕ) (bytes : List ℕ) (x : Called) {store sent out out' : List ℕ} {at r : ℕ} → Does e (call_by kind tick bytes) x store sent
-    → LaidWithin 30 (answer_line (eqb kind 5) x.answer x.lost) out at out' r → LaidWithin 30 (answer_for e (call_by kind tick bytes)) out at out' r
+-- the line of an answer, told by its number and by how many were lost: a refusal's does not look at these
+told_line : (sweep : Bool) (n lost : ℕ) → is_answer n ≡ true
+    → answer_line sweep (number_of (settled n lost)) (result_unwrap_or (settled n lost) 0) ≡ answer_line sweep n lost
+unfolding answer_line
+told_line sweep n lost h = rw (number_settled n lost h) (ap (λ (b : List ℕ). line "answer" (cond sweep b (decimal_of n))) (by (eqb n 0)))
+  where
+    by : (t : Bool)
+        → cond t (comma (decimal_of 0) (decimal_of (result_unwrap_or (cond t (Ok lost) (Err (refusal_of n))) 0))) (decimal_of n)
+        ≡ cond t (comma (decimal_of 0) (decimal_of lost)) (decimal_of n)
+    by true = refl
+    by false = refl
+
+pub answer_laid : (e : Endpoint) (kind tick : ℕ) (bytes : List ℕ) (x : Called) {n lost : ℕ} {store sent out out' : List ℕ} {at r : ℕ}
+    → Does e (call_by kind tick bytes) x store sent → n ≡ number_of x.answer → lost ≡ result_unwrap_or x.answer 0
+    → LaidWithin 30 (answer_line (eqb kind 5) n lost) out at out' r → LaidWithin 30 (answer_for e (call_by kind tick bytes)) out at out' r
 unfolding answer_for
-answer_laid e kind tick bytes x y z = within_as (rw (y.answer, y.lost, sweep_by kind tick bytes) refl) z
+answer_laid e kind tick bytes x y h k z =
+    let c = call_by kind tick bytes in
+    within_as (rw (h, k, y.answer, sweep_by kind tick bytes) (told_line (eqb kind 5) (answer_of 32 32 e c) (lost_to e c) (answers_known 32 32 e c))) z

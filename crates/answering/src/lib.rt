@@ -38,12 +38,12 @@ pub fn answer(
     ensures text { LaidWithin 30 (answer_for (endpoint_with s r store.old sent.old) (call_by kind tick bytes.now)) out.old at out.new result.at }
 {
     let x = calling::call(s, r, store, sent, kind, tick, bytes);
-    let end = record_lines::answer_line(out, at, kind == trace::SWEEP, x.answer, x.lost);
-    let sender = x.sender;
-    let receiver = x.receiver;
+    let n = common::number(x.answer);
+    let lost = x.answer.unwrap_or(0);
+    let end = record_lines::answer_line(out, at, kind == trace::SWEEP, n, lost);
     Answered {
-        sender,
-        receiver,
+        sender: x.sender,
+        receiver: x.receiver,
         at: end,
     }
 }

@@ -1,4 +1,6 @@
 -- Applying what a packet brings, a law for each way out.
+use Rattle.std.specs.Prelude.{Ok, Err}
+use Rattle.common.specs.declared.Refusal.{Refusal}
 use Prim.Native.Nat.{ℕ, ◌+◌, ◌%◌, ◌≤◌, ◌<◌, max}
 use mathlib.Core.Bool.{Bool, true, false, cond}
 use mathlib.Core.List.{List}
@@ -14,7 +16,7 @@ use Rattle.window.specs.Window.{Win, lifted, slid}
 use Rattle.receiver.specs.declared.Hold.{Hold}
 use Rattle.receiver.specs.declared.Receiver.{Receiver}
 use Rattle.judging.specs.declared.Arrived.{Arrived}
-use Rattle.judging.specs.declared.Arrived.TheVariants.{Refused, Nothing, Waiver, Content}
+use Rattle.judging.specs.declared.Arrived.TheVariants.{Nothing, Waiver, Content}
 use Rattle.receiver.specs.Record.{State, state, is_marked, empty, holding, marks_of}
 use Rattle.receiver.specs.Packet.{Packet, marked, marks_after, is_new, keeps, receiver_after}
 use Rattle.receiver.specs.Receive.{values_of}
@@ -65,9 +67,17 @@ module _ (w : ℕ) (r : Receiver) (c at : ℕ) (h : Hold) (place : at ≡ c % w)
       go true q = rw (q, place) refl
       go false q = rw (q, here) (set-get_or r.holds at empty)
 
-module _ (w : ℕ) (r : Receiver) (s d : List ℕ) (p : WirePacket) (a : Arrived) (judged : a ≡ judged_of w r p.values) where
-  applied : (x : Arrived) → a ≡ x → left_by w (state r s) (body_in d p) x ≡ values_of w (state r s) d p
-  applied x e = ap (left_by w (state r s) (body_in d p)) (sym e ∙ judged) ∙ judged_leaves w (state r s) d p
+-- a refusal brings nothing
+pub applied_refused : (w : ℕ) (r : Receiver) (s d : List ℕ) (p : WirePacket) (x : Refusal) → judged_of w r p.values ≡ Err x
+    → (r ≡ (values_of w (state r s) d p).receiver) × (s ≡ (values_of w (state r s) d p).store)
+unfolding left_by
+applied_refused w r s d p x e =
+    let l = ap (left_by w (state r s) (body_in d p)) (sym e) ∙ judged_leaves w (state r s) d p in
+    (ap (λ (y : State). y.receiver) l, ap (λ (y : State). y.store) l)
+
+module _ (w : ℕ) (r : Receiver) (s d : List ℕ) (p : WirePacket) (a : Arrived) (judged : judged_of w r p.values ≡ Ok a) where
+  applied : (x : Arrived) → a ≡ x → left_by w (state r s) (body_in d p) (Ok x) ≡ values_of w (state r s) d p
+  applied x e = ap (left_by w (state r s) (body_in d p)) (ap Ok (sym e) ∙ sym judged) ∙ judged_leaves w (state r s) d p
 
   -- a receiver and a store that are what is left
   abbrev Left : Receiver → List ℕ → Type 0
@@ -75,10 +85,6 @@ module _ (w : ℕ) (r : Receiver) (s d : List ℕ) (p : WirePacket) (a : Arrived
 
   parts : (q : Receiver) (left : List ℕ) → state q left ≡ values_of w (state r s) d p → Left q left
   parts q left e = (ap (λ (x : State). x.receiver) e, ap (λ (x : State). x.store) e)
-
-  pub applied_refused : a ≡ Refused → Left r s
-  unfolding left_by
-  applied_refused e = parts r s (applied Refused e)
 
   pub applied_nothing : a ≡ Nothing → Left r s
   unfolding left_by

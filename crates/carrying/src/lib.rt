@@ -4,13 +4,13 @@
 ghost use Rattle.std.specs.Prelude.{◌≡◌, ◌≤◌, length};
 ghost use Rattle.common.specs.Answer.{room_answer, written_of, left_of};
 ghost use Rattle.numbers.specs.Full.{past_highest};
-ghost use Rattle.sender.specs.Send.{data_bytes, sent_of};
+ghost use Rattle.sender.specs.Send.{data_values, data_bytes, sent_of};
 ghost use Rattle.sender.specs.Record.{longest_sent};
 
-use common::Written;
+use common::Refusal;
 use numbers::{ChannelNumber, DataNumber};
 use sender::{BlockPlace, NumberPlace, Sender};
-use wire::{Ack, Delay, Values, Vector};
+use wire::Values;
 
 // The flags of a data packet: AOA and DATA, nothing else.
 const AOA_AND_DATA: u16 = 0x014;
@@ -19,9 +19,23 @@ const AOA_AND_DATA: u16 = 0x014;
 #[derive(Clone, Copy)]
 pub struct Outcome {
     // The refusal, or how many bytes were written.
-    pub written: Written,
+    pub written: Result<usize, Refusal>,
     // The record after the call.
     pub sender: Sender,
+}
+
+// The values of a data packet with this low and this data number that carries this block.
+fn data_values(low: DataNumber, next: DataNumber, channel: ChannelNumber) -> Values
+    ensures { result ≡ data_values low.0 next.0 channel.0 }
+{
+    Values {
+        flags: AOA_AND_DATA,
+        logwindow: wire::LOGWINDOW,
+        aoa: (low.0 % DataNumber::LAP) as u16,
+        number: (next.0 % DataNumber::LAP) as u16,
+        channel: (channel.0 % ChannelNumber::LAP) as u16,
+        ..Values::default()
+    }
 }
 
 // Writes the datagram that carries a block. Refused with 14 alone.
@@ -31,38 +45,12 @@ pub fn put_data(
     channel: ChannelNumber,
     block: &[u8],
     out: &mut [u8],
-) -> Written
+) -> Result<usize, Refusal>
     requires { length block.now ≤ longest_sent }
     ensures answer { result ≡ written_of (room_answer (data_bytes low.0 next.0 channel.0 block.now) (length out.old)) (data_bytes low.0 next.0 channel.0 block.now) }
     ensures bytes { out.new ≡ left_of (room_answer (data_bytes low.0 next.0 channel.0 block.now) (length out.old)) (data_bytes low.0 next.0 channel.0 block.now) out.old }
 {
-    let values = Values {
-        flags: AOA_AND_DATA,
-        logwindow: wire::LOGWINDOW,
-        ack: Ack {
-            number: 0,
-            time: 0,
-            gap: 0,
-            count: 0,
-            scale: 0,
-        },
-        overhead: 0,
-        delay: Delay {
-            most: 0,
-            timeout: 0,
-        },
-        aoa: (low.0 % DataNumber::LAP) as u16,
-        number: (next.0 % DataNumber::LAP) as u16,
-        vector: Vector {
-            base: 0,
-            size: 0,
-            timed: false,
-            time: 0,
-            gap: 0,
-        },
-        channel: (channel.0 % ChannelNumber::LAP) as u16,
-    };
-    writer::write(values, b"", b"", block, out)
+    writer::write(data_values(low, next, channel), b"", b"", block, out)
 }
 
 // The record after the next data number went out with block c, of so many bytes, at this tick. Its place then says that the block was
@@ -78,8 +66,8 @@ pub fn sent(
     requires { s.next.0 ≤ past_highest }
     ensures { result ≡ sent_of 32 s tick c.0 length sends channelnext.0 }
 {
-    let numberat = window::data_place(s.next);
-    let blockat = window::channel_place(c);
+    let numberat = window::place(s.next);
+    let blockat = window::place(c);
     let mut q = s;
     let next = DataNumber(s.next.0 + 1);
     q.next = next;

@@ -8,11 +8,10 @@ use Rattle.numbers.specs.Age.{age_of, reaches}
 use Rattle.vector.specs.Says.{says_of, bits_of, states_in, states_of, names}
 use Rattle.vector.specs.Rule.{alike, run_of, map_of, byte_of, covers_of, bytes_by, vector_of}
 use Rattle.wire.specs.declared.Values.{Values}
-use Rattle.wire.specs.declared.Reading.{Reading}
 use Rattle.wire.specs.Frame.{swapped, prefix_for, padded, framed}
 use Rattle.wire.specs.Flags.{six_of, outside}
 use Rattle.wire.specs.Layout.{no_ack, no_delay, no_vector}
-use Rattle.wire.specs.Read.{read_of}
+use Rattle.wire.specs.Read.{read_of, Reading}
 use Rattle.wire.specs.Write.{packet_bytes, datagram_of, write_answer}
 
 -- k numbers from n on
@@ -47,9 +46,9 @@ pub data Case : Type 0 where
   -- the vector for some received numbers, from a base on
   coding : (base : ℕ) (received bytes : List ℕ) → Case
   -- a field is widened against a reference
-  widening : (reference field : ℕ) (number : Widened) → Case
+  widening : (reference field : ℕ) (number : Widened ℕ) → Case
   -- the same, to a number that is out of place whatever the first of its kind
-  misplacing : (reference field : ℕ) (number : Widened) → Case
+  misplacing : (reference field : ℕ) (number : Widened ℕ) → Case
   -- a tick's age, and whether it is lost at a timeout
   ageing : (sent now age timeout : ℕ) (lost : Bool) → Case
 

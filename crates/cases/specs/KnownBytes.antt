@@ -1,10 +1,10 @@
 -- Datagrams whose bytes the documents give, and each flag's bit in one small datagram, as one statement over one list of cases.
-use Rattle.std.specs.Prelude.{ℕ, false, List, [], ◌∷◌, refl}
+use Rattle.common.specs.declared.Refusal.TheVariants.{LeftOver, OtherFlag}
+use Rattle.std.specs.Prelude.{ℕ, false, List, [], ◌∷◌, refl, Err, Ok, None, Some}
 use Rattle.common.specs.Order.{first}
 use Rattle.vector.specs.Says.{says_of, bits_of, states_in, states_of, names}
 use Rattle.vector.specs.Rule.{alike, run_of, map_of, byte_of, covers_of, bytes_by, vector_of}
 use Rattle.wire.specs.declared.Values.{Values}
-use Rattle.wire.specs.declared.Reading.TheVariants.{Refused, Dummy, Read}
 use Rattle.wire.specs.Frame.{swapped, dropped_by, end_of, prefix_for, padded, framed}
 use Rattle.wire.specs.Flags.{six_of, outside}
 use Rattle.wire.specs.Layout.{no_ack, no_delay, no_vector, ack_end, overhead_end, delay_end, aoa_end, number_end, vector_end, channel_end, values_of, packet_of}
@@ -45,29 +45,29 @@ listed = record { flags = 0x004; logwindow = 5; ack = no_ack; overhead = 0; dela
 unfoldable pub known : List Case
 known =
     -- 000, 4.4.6: with the flags of its payloads it reads as 4.4.3 says, and what 4.4.3 says is written so
-    reading (piggybacked 0x55) (Read (record { values = evaluated; additions = 10; vector = 0; body = 19; bytes = 10 }))
+    reading (piggybacked 0x55) (Ok (Some (record { values = evaluated; additions = 10; vector = 0; body = 19; bytes = 10 })))
     ∷ writing evaluated (0x29 ∷ 0x84 ∷ []) [] (numbers 0x01 10) (piggybacked 0x55)
     -- as it is printed, its flags leave bytes over
-    ∷ reading (piggybacked 0x18) (Refused 6)
+    ∷ reading (piggybacked 0x18) (Err LeftOver)
     -- the listing's example
     ∷ reading (0x41 ∷ 0x04 ∷ 0x50 ∷ 0xe8 ∷ 0x03 ∷ 0x07 ∷ 0x00 ∷ 0x00 ∷ 0x42 ∷ [])
-    (Read (record { values = listed; additions = 0; vector = 0; body = 7; bytes = 2 }))
+    (Ok (Some (record { values = listed; additions = 0; vector = 0; body = 7; bytes = 2 })))
     ∷ writing listed [] [] (0x41 ∷ 0x42 ∷ []) (0x41 ∷ 0x04 ∷ 0x50 ∷ 0xe8 ∷ 0x03 ∷ 0x07 ∷ 0x00 ∷ 0x00 ∷ 0x42 ∷ [])
     -- P1's datagram is a dummy
-    ∷ reading (0x73 ∷ 0x30 ∷ 0x35 ∷ 0x56 ∷ 0x78 ∷ 0xa2 ∷ 0x36 ∷ 0x10 ∷ 0xee ∷ 0x68 ∷ 0xf2 ∷ []) Dummy
+    ∷ reading (0x73 ∷ 0x30 ∷ 0x35 ∷ 0x56 ∷ 0x78 ∷ 0xa2 ∷ 0x36 ∷ 0x10 ∷ 0xee ∷ 0x68 ∷ 0xf2 ∷ []) (Ok None)
     -- no flag at all
     ∷ reading (bare 0x00 0x50)
-    (Read (record { values = record { flags = 0; logwindow = 5; ack = no_ack; overhead = 0; delay = no_delay; aoa = 0; number = 0; vector = no_vector; channel = 0 }; additions = 0; vector = 0; body = 0; bytes = 0 }))
+    (Ok (Some (record { values = record { flags = 0; logwindow = 5; ack = no_ack; overhead = 0; delay = no_delay; aoa = 0; number = 0; vector = no_vector; channel = 0 }; additions = 0; vector = 0; body = 0; bytes = 0 })))
     -- each flag outside the six
-    ∷ reading (bare 0x02 0x50) (Refused 4)
-    ∷ reading (bare 0x20 0x50) (Refused 4)
-    ∷ reading (bare 0x80 0x50) (Refused 4)
-    ∷ reading (bare 0x00 0x52) (Refused 4)
-    ∷ reading (bare 0x00 0x54) (Refused 4)
-    ∷ reading (bare 0x00 0x58) (Refused 4)
+    ∷ reading (bare 0x02 0x50) (Err OtherFlag)
+    ∷ reading (bare 0x20 0x50) (Err OtherFlag)
+    ∷ reading (bare 0x80 0x50) (Err OtherFlag)
+    ∷ reading (bare 0x00 0x52) (Err OtherFlag)
+    ∷ reading (bare 0x00 0x54) (Err OtherFlag)
+    ∷ reading (bare 0x00 0x58) (Err OtherFlag)
     -- AOA alone, P2's datagram
     ∷ reading (0x00 ∷ 0x10 ∷ 0x50 ∷ 0x0a ∷ 0x00 ∷ 0x00 ∷ 0x00 ∷ 0x80 ∷ [])
-    (Read (record { values = record { flags = 0x010; logwindow = 5; ack = no_ack; overhead = 0; delay = no_delay; aoa = 10; number = 0; vector = no_vector; channel = 0 }; additions = 0; vector = 0; body = 0; bytes = 0 }))
+    (Ok (Some (record { values = record { flags = 0x010; logwindow = 5; ack = no_ack; overhead = 0; delay = no_delay; aoa = 10; number = 0; vector = no_vector; channel = 0 }; additions = 0; vector = 0; body = 0; bytes = 0 })))
     -- ACK alone
     ∷ writing
     (record { flags = 0x001; logwindow = 5; ack = record { number = 0x0102; time = 0x030405; gap = 6; count = 0; scale = 0 }; overhead = 0; delay = no_delay; aoa = 0; number = 0; vector = no_vector; channel = 0 })

@@ -4,11 +4,13 @@ use mathlib.Core.Bool.{Bool, true, false, not, beq}
 use mathlib.Core.List.{List, [], ◌∷◌}
 use mathlib.Core.Path.{◌≡◌, refl, sym, ◌∙◌, ap}
 use native.Mathlib.Omega.{arith}
-use lib.ListN.{length, get_or, take, drop, set, length-drop, length-set, drop_of_length-le, get_or-eq_default}
+use lib.ListN.{length, get_or, take, drop, set, length-drop, length-set, drop_of_length-le}
 use lib.Seq.{drop-drop}
 use lib.Pow.{pow_mono}
 use lib.Dec.{ltb}
 use borrow.Author.Tests.{ltb-true, ltb-false}
+use Rattle.std.proofs.Common.{⊎_elim}
+use Rattle.common.specs.Facts.{lt_or_ge}
 use Rattle.common.specs.Put.{put_of, put_none, put_one, put_put}
 use Rattle.vector.specs.Rule.{one, alike, run_of, map_of, byte_of, covers_of, vector_of}
 use Rattle.vector.specs.Laws.{front, alike_same, alike_other, alike_none, alike_within, map_step, run_at_most, map_fits, byte_map, byte_run, covers_map, covers_run, covers_some, vector_none, vector_more}
@@ -29,13 +31,16 @@ module _ (ss : List Bool) (s : Bool) (i n r : ℕ) (inv : min 63 (n + alike s (d
       let a : alike s (drop (i + n) ss) ≡ 0 = rw (front ss (i + n) h) (alike_other s (get_or ss (i + n) false) (drop (i + n + 1) ss) e) in
       omega arith
 
-  pub run_end : length ss ≤ i + n → n ≤ 63 → n ≡ r
-  run_end h l =
-      let a : alike s (drop (i + n) ss) ≡ 0 = rw (drop_of_length-le ss h) (alike_none s) in
-      omega arith
+  pub run_longest : n ≡ min (length ss - i) 63 → n ≡ r
+  run_longest h = ⊎_elim end full (lt_or_ge (length ss - i) 63)
+    where
+      end : length ss - i < 63 → n ≡ r
+      end l =
+          let a : alike s (drop (i + n) ss) ≡ 0 = rw (drop_of_length-le ss {i = i + n} (omega arith)) (alike_none s) in
+          omega arith
 
-  pub run_full : n ≡ 63 → n ≡ r
-  run_full h = omega arith
+      full : 63 ≤ length ss - i → n ≡ r
+      full l = omega arith
 
 -- A MAP, FROM ITS LAST STATE TO ITS FIRST
 
@@ -49,21 +54,12 @@ map_small ss k h =
     let p : 2 ^ (7 - k) ≤ 2 ^ 6 = pow_mono {i = 7 - k} {j = 6} (omega arith) in
     omega arith
 
-pub bit_past : (ss : List Bool) (i k : ℕ) → length ss ≤ i + k → 0 ≡ one (get_or ss (i + k) false)
-bit_past ss i k h = ap one (sym (get_or-eq_default ss false h))
-
 pub map_more : (ss : List Bool) (i k : ℕ) → 0 < k → k ≤ 7
     → one (get_or ss (i + (k - 1)) false) + 2 * map_of (take (7 - k) (drop (i + k) ss)) ≡ map_of (take (7 - (k - 1)) (drop (i + (k - 1)) ss))
 map_more ss i k h l =
     let e : i + k ≡ suc (i + (k - 1)) = omega arith in
     let f : 7 - (k - 1) ≡ suc (7 - k) = omega arith in
     rw (e, f) (sym (map_step ss (i + (k - 1)) (7 - k)))
-
-pub map_end : (ss : List Bool) (i k : ℕ) → k ≡ 0 → map_of (take (7 - k) (drop (i + k) ss)) ≡ map_of (take 7 (drop i ss))
-map_end ss i k e =
-    let f : i + k ≡ i = omega arith in
-    let g : 7 - k ≡ 7 = omega arith in
-    rw (f, g) refl
 
 -- THE BYTE AND THE PLACE AFTER IT: n is the run from place i on
 
@@ -96,11 +92,8 @@ module _ (ss : List Bool) (i n : ℕ) (h : i < length ss) (run : n ≡ run_of (g
       let w = run_within ss i h in
       omega arith
 
-  pub after_last : n ≤ 7 → length ss - i < 7 → length ss ≡ after ss i
-  after_last l m = let c = covers_map (get_or ss i false) (drop (i + 1) ss) (omega arith) in omega arith
-
-  pub after_map : n ≤ 7 → 7 ≤ length ss - i → i + 7 ≡ after ss i
-  after_map l m = let c = covers_map (get_or ss i false) (drop (i + 1) ss) (omega arith) in omega arith
+  pub after_map : n ≤ 7 → i + min (length ss - i) 7 ≡ after ss i
+  after_map l = let c = covers_map (get_or ss i false) (drop (i + 1) ss) (omega arith) in omega arith
 
 -- THE BYTES FROM A PLACE ON
 

@@ -6,7 +6,7 @@ ghost use Rattle.common.specs.Put.{put_of};
 ghost use Rattle.common.specs.Answer.{written_of, left_of};
 ghost use Rattle.vector.specs.Rule.{one, run_of, map_of, byte_of, covers_of, vector_of, answer_of};
 
-use common::Written;
+use common::Refusal;
 
 // How many states from place i on equal the state there, at most 63.
 fn run_at(states: &[bool], i: usize) -> usize
@@ -14,17 +14,13 @@ fn run_at(states: &[bool], i: usize) -> usize
     ensures { result ≡ run_of (get_or states.now i false) (drop (i + 1) states.now) }
 {
     let s = states[i];
-    let mut n: usize = 1;
-    while n < 63 {
-        if states.len() - i <= n {
-            return n;
-        }
+    let longest = (states.len() - i).min(63);
+    for n in 1..longest {
         if states[i + n] != s {
             return n;
         }
-        n += 1;
     }
-    n
+    longest
 }
 
 // The bit for the state k places after place i; 0 past the range.
@@ -32,13 +28,7 @@ fn bit_at(states: &[bool], i: usize, k: usize) -> u8
     requires { i < length states.now }
     ensures { result ≡ one (get_or states.now (i + k) false) }
 {
-    if states.len() - i <= k {
-        return 0;
-    }
-    if states[i + k] {
-        return 1;
-    }
-    0
+    states[i..].get(k).is_some_and(|s| *s) as u8
 }
 
 // A map with one state more put in front: the others move up by a bit.
@@ -55,9 +45,7 @@ fn map_at(states: &[bool], i: usize) -> u8
     ensures { result ≡ map_of (take 7 (drop i states.now)) }
 {
     let mut m: u8 = 0;
-    let mut k: usize = 7;
-    while 0 < k {
-        k -= 1;
+    for k in (0..7usize).rev() {
         m = in_front(bit_at(states, i, k), m);
     }
     m
@@ -78,9 +66,10 @@ fn byte_at(states: &[bool], i: usize) -> u8
 {
     let n = run_at(states, i);
     if n <= 7 {
-        return map_at(states, i);
+        map_at(states, i)
+    } else {
+        run_byte(bit_at(states, i, 0), n as u8)
     }
-    run_byte(bit_at(states, i, 0), n as u8)
 }
 
 // The place after the states that the byte for place i covers, at most the end of the range.
@@ -90,15 +79,14 @@ fn place_after(states: &[bool], i: usize) -> usize
 {
     let n = run_at(states, i);
     if 7 < n {
-        return i + n;
+        i + n
+    } else {
+        i + (states.len() - i).min(7)
     }
-    if states.len() - i < 7 {
-        return states.len();
-    }
-    i + 7
 }
 
-// How many bytes the vector for a range of states has.
+// How many bytes the vector for a range of states has. Each turn goes on by as many states as one byte covers, which no iterator over the
+// states does.
 fn size(states: &[bool]) -> usize
     ensures { result ≡ length (vector_of states.now) }
 {
@@ -111,7 +99,7 @@ fn size(states: &[bool]) -> usize
     n
 }
 
-// Lays the vector for a range of states over the front of out.
+// Lays the vector for a range of states over the front of out, by the same walk.
 fn fill(states: &[bool], out: &mut [u8])
     requires { length (vector_of states.now) ≤ length out.old }
     ensures { out.new ≡ put_of out.old 0 (vector_of states.now) }
@@ -126,14 +114,14 @@ fn fill(states: &[bool], out: &mut [u8])
 }
 
 // Writes the vector for a range of states, the first state's number being the base. Refused with 14 where out is too short.
-pub fn write(states: &[bool], out: &mut [u8]) -> Written
+pub fn write(states: &[bool], out: &mut [u8]) -> Result<usize, Refusal>
     ensures answer { result ≡ written_of (answer_of states.now (length out.old)) (vector_of states.now) }
     ensures bytes { out.new ≡ left_of (answer_of states.now (length out.old)) (vector_of states.now) out.old }
 {
     let n = size(states);
     if out.len() < n {
-        return Written::Refused(14);
+        return Err(Refusal::Room);
     }
     fill(states, out);
-    Written::Wrote(n)
+    Ok(n)
 }

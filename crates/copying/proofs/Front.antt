@@ -1,13 +1,13 @@
 -- A part that begins with the prefix: the prefix, and behind it what stands from place 1 on.
-use Prim.Native.Nat.{ℕ, suc, ◌+◌, ◌-◌, ◌≤◌, ◌<◌}
+use Prim.Native.Nat.{ℕ, suc, ◌-◌, ◌≤◌, ◌<◌}
 use mathlib.Core.List.{List, [], ◌∷◌}
 use mathlib.Core.Path.{◌≡◌, refl, sym, ◌∙◌, ap}
 use native.Mathlib.Omega.{arith}
-use lib.ListN.{length, get_or, set, take, drop, length-set}
-use Rattle.common.specs.Put.{put_of, put_none, put_one, put_put, put_length}
+use lib.ListN.{length, get_or, set, take, drop}
+use Rattle.common.specs.Put.{put_of, put_none, put_one, put_put}
 use Rattle.wire.specs.Frame.{swapped, byte_at}
 use Rattle.wire.specs.Layout.{part_of}
-use Rattle.wire.specs.Round.Framing.{swapped_length, part_length}
+use Rattle.wire.specs.Round.Framing.{swapped_length}
 
 split : (p : List ℕ) (n : ℕ) → 0 < length p → take (suc n) (drop 0 p) ≡ get_or p 0 0 ∷ take n (drop 1 p)
 split [] n h = absurd (omega arith)
@@ -36,14 +36,3 @@ module _ (d out : List ℕ) (from n : ℕ) (at : from ≤ 0) where
   pub nothing_laid : n ≤ 0 → out ≡ put_of out 0 (part_of d from n)
   unfolding part_of
   nothing_laid h = let z : 0 ≡ n = omega arith in sym (put_none out 0) ∙ ap (λ (k : ℕ). put_of out 0 (take k (drop from (swapped d)))) z
-
--- The buffer has room for what comes behind the prefix, and stays as long.
-pub front_room : (out : List ℕ) (n b : ℕ) → 0 < n → n ≤ length out → 1 + (n - 1) ≤ length (set out 0 b)
-front_room out n b l r = omega (arith, length-set out 0 b)
-
-pub front_long : (d out : List ℕ) (from n b : ℕ) (left : List ℕ) → 0 < n → from + n ≤ length d → n ≤ length out
-    → left ≡ put_of (set out 0 b) 1 (part_of d 1 (n - 1)) → length left ≡ length out
-front_long d out from n b left l h r x =
-    ap length x
-    ∙ put_length (set out 0 b) 1 (part_of d 1 (n - 1)) (omega (arith, part_length d 1 (n - 1) (omega arith), length-set out 0 b))
-    ∙ length-set out 0 b

@@ -1,4 +1,5 @@
 -- Copying a part out: a law for each way out of the judgement, and what an accepted copy tells.
+use Rattle.std.specs.Prelude.{Ok}
 use Prim.Native.Nat.{ℕ, ◌+◌, ◌-◌, ◌≤◌, ◌<◌}
 use mathlib.Core.List.{List}
 use mathlib.Core.Path.{◌≡◌, refl, sym, ◌∙◌, ap}
@@ -6,7 +7,6 @@ use native.Mathlib.Omega.{arith}
 use lib.ListN.{length}
 use lib.Dec.{ltb}
 use borrow.Author.Tests.{lt-ltb, le-ltb, ltb-false}
-use Rattle.common.specs.declared.Written.TheVariants.{Wrote}
 use Rattle.common.specs.Answer.{written_of, left_of, written_wrote, left_wrote}
 use Rattle.common.specs.Laid.{Laid}
 use Rattle.common.specs.Order.{first}
@@ -69,9 +69,8 @@ accepted_fits d from n room e =
     }
 
 -- What the call then answers, and leaves.
-pub copy_done : (d out left : List ℕ) (from n a : ℕ) → a ≡ copy_answer d from n (length out) → a ≡ 0 → left ≡ put_of out 0 (part_of d from n)
-    → (Wrote n ≡ written_of (copy_answer d from n (length out)) (part_of d from n)) × (left ≡ left_of (copy_answer d from n (length out)) (part_of d from n) out)
-copy_done d out left from n a e z x =
-    let accepted : 0 ≡ copy_answer d from n (length out) = sym z ∙ e in
+pub copy_done : (d out left : List ℕ) (from n : ℕ) → 0 ≡ copy_answer d from n (length out) → left ≡ put_of out 0 (part_of d from n)
+    → (Ok n ≡ written_of (copy_answer d from n (length out)) (part_of d from n)) × (left ≡ left_of (copy_answer d from n (length out)) (part_of d from n) out)
+copy_done d out left from n accepted x =
     let laid : Laid out 0 (part_of d from n) left n = record { bytes = x; next = omega (arith, part_length d from n (accepted_fits d from n (length out) accepted).inside) } in
     (written_wrote _ _ _ _ _ accepted laid, left_wrote _ _ _ _ _ accepted laid)

@@ -1,14 +1,12 @@
 -- Of a datagram that was read as a packet, a host gets the additions, the vector bytes and the block by copying, and exactly these: a copy is
 -- refused only where the output is too short for it. A part that is not there is empty and stands at place 0; copying it writes nothing.
-use Rattle.std.specs.Prelude.{ℕ, ◌+◌, ◌-◌, ◌≤◌, Bool, true, false, cond, List, [], ◌∷◌, ◌++◌, ◌≡◌, length, drop, ltb}
+use Rattle.std.specs.Prelude.{ℕ, ◌+◌, ◌-◌, ◌≤◌, Bool, true, false, cond, List, [], ◌∷◌, ◌++◌, ◌≡◌, length, drop, ltb, Ok, Some}
 use Rattle.std.proofs.Common.{sym, ◌∙◌, ap, subst, arith, le-ltb}
-use Rattle.common.specs.declared.Written.TheVariants.{Wrote}
 use Rattle.common.specs.Answer.{written_of, left_of, room_answer}
 use Rattle.common.specs.Order.{test, first, first_none, first_skip}
 use Rattle.common.specs.Put.{put_front}
 use Rattle.wire.specs.declared.Packet.{Packet}
 use Rattle.wire.specs.declared.Values.{Values}
-use Rattle.wire.specs.declared.Reading.TheVariants.{Read}
 use Rattle.wire.specs.Frame.{swapped, end_of}
 use Rattle.wire.specs.Flags.{ack_in, data_in, vector_in}
 use Rattle.wire.specs.Layout.{flags_of, sized, ack_at, ack_size, stamp_size, timed_at, vector_at, vector_size, no_ack, no_vector, ack_end, overhead_end, delay_end, aoa_end, number_end, vector_end, channel_end, values_of, packet_of, part_of}
@@ -24,7 +22,7 @@ use Rattle.copying.specs.Copy.{copy_answer}
 pub record Had (d : List ℕ) (from n : ℕ) (part : List ℕ) : Type 0 where
   pub long : length part ≡ n
   pub answer : (room : ℕ) → copy_answer d from n room ≡ room_answer part room
-  pub wrote : (out : List ℕ) → n ≤ length out → written_of (copy_answer d from n (length out)) (part_of d from n) ≡ Wrote n
+  pub wrote : (out : List ℕ) → n ≤ length out → written_of (copy_answer d from n (length out)) (part_of d from n) ≡ Ok n
   pub front : (out : List ℕ) → n ≤ length out → left_of (copy_answer d from n (length out)) (part_of d from n) out ≡ part ++ drop n out
 
 -- a packet's additions, vector bytes and block are had as these
@@ -48,7 +46,7 @@ had d from n facts h =
     record {
       long = l;
       answer = λ room. sym (a room);
-      wrote = λ out fits. rw (zero (length out) fits) (ap Wrote l);
+      wrote = λ out fits. rw (zero (length out) fits) (ap Ok l);
       front = λ out fits. rw (zero (length out) fits) (put_front out (part_of d from n) ∙ ap (λ (k : ℕ). part_of d from n ++ drop k out) l);
     }
 
@@ -78,7 +76,7 @@ found_parts d facts =
       body_had = had d _ _ facts (body_within (channel_end p f) (end_of p) (data_in f) whole);
     }
 
-pub parts_of_what_was_read : (d : List ℕ) (p : Packet) → read_of d ≡ Read p → Parts d p (additions_in d p) (coded_in d p) (body_in d p)
+pub parts_of_what_was_read : (d : List ℕ) (p : Packet) → read_of d ≡ Ok (Some p) → Parts d p (additions_in d p) (coded_in d p) (body_in d p)
 parts_of_what_was_read d p e =
     let (facts, same) = read_found d p e in
     subst (λ (q : Packet). Parts d q (additions_in d q) (coded_in d q) (body_in d q)) same (found_parts d facts)

@@ -1,8 +1,11 @@
 -- Opening, a law for each way out.
 use Prim.Native.Nat.{ℕ, ◌≤◌}
-use mathlib.Core.Path.{◌≡◌, ◌∙◌, ap}
+use mathlib.Core.Path.{◌≡◌, refl}
 use native.Mathlib.Omega.{arith}
-use borrow.Author.Tests.{eq-eqb, ne_eqb, ltb-false}
+use borrow.Author.Tests.{ne_eqb, ltb-false}
+use Rattle.std.specs.Prelude.{Result, Ok, Err}
+use Rattle.common.specs.declared.Refusal.{Refusal}
+use Rattle.common.specs.Answer.{answered_of, settled_err}
 use Rattle.common.specs.Order.{first_pass}
 use Rattle.numbers.specs.Full.{highest_first}
 use Rattle.receiver.specs.declared.Receiver.{Receiver}
@@ -11,7 +14,7 @@ use Rattle.sender.specs.declared.Sender.{Sender}
 use Rattle.sender.specs.Record.{remembering}
 use Rattle.sender.specs.Fresh as sending
 use Rattle.endpoint.specs.declared.Opened.{Opened}
-use Rattle.endpoint.specs.Open.{open_answer, opened_of}
+use Rattle.endpoint.specs.Open.{open_answer, opened_of, told_of}
 
 pub firsts_fit : (n c t : ℕ) → 0 ≡ open_answer n c t → (n ≤ highest_first) × (c ≤ highest_first)
 unfolding open_answer
@@ -21,17 +24,17 @@ firsts_fit n c t h =
     (ltb-false _ _ a, ltb-false _ _ b)
 
 -- two records and an answer, as opening gives them
-abbrev both : ℕ → Sender → Receiver → Opened
+abbrev both : Result Unit Refusal → Sender → Receiver → Opened
 both n s r = record { answer = n; sender = s; receiver = r }
 
-pub refused : (w n c t answer : ℕ) (s : Sender) (r : Receiver) → answer ≡ open_answer n c t → (answer ≡ 0 → ⊥) → s ≡ sending.fresh_of w 0 0 0 → r ≡ receiving.fresh_of w 0 0
-    → both answer (remembering 0 s) r ≡ opened_of w n c t
-unfolding opened_of
-refused w n c t answer s r e h x y =
-    rw (← e, ne_eqb answer 0 h) (ap (λ (s : Sender). both answer (remembering 0 s) r) x ∙ ap (both answer (remembering 0 (sending.fresh_of w 0 0 0))) y)
+pub refused : (w n c t : ℕ) (x : Refusal) (s : Sender) (r : Receiver) → Err x ≡ answered_of (open_answer n c t) → s ≡ sending.fresh_of w 0 0 0 → r ≡ receiving.fresh_of w 0 0
+    → both (Err x) (remembering 0 s) r ≡ told_of (opened_of w n c t)
+unfolding opened_of answered_of
+refused w n c t x s r e y z =
+    let (h, q) = settled_err x (open_answer n c t) tt e in
+    rw (ne_eqb (open_answer n c t) 0 h, y, z, q, ne_eqb (open_answer n c t) 0 h) refl
 
-pub opens : (w n c t answer : ℕ) (s : Sender) (r : Receiver) → answer ≡ open_answer n c t → answer ≡ 0 → s ≡ sending.fresh_of w n c t → r ≡ receiving.fresh_of w n c
-    → both 0 s r ≡ opened_of w n c t
-unfolding opened_of
-opens w n c t answer s r e h x y =
-    rw (← e, eq-eqb answer 0 h) (ap (λ (s : Sender). both 0 s r) x ∙ ap (both 0 (sending.fresh_of w n c t)) y)
+pub opens : (w n c t : ℕ) (s : Sender) (r : Receiver) → 0 ≡ open_answer n c t → s ≡ sending.fresh_of w n c t → r ≡ receiving.fresh_of w n c
+    → both (Ok tt) s r ≡ told_of (opened_of w n c t)
+unfolding opened_of answered_of
+opens w n c t s r e y z = rw (← e, y, z) refl

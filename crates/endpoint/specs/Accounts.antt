@@ -1,10 +1,9 @@
 -- What the calls of an endpoint did to its sending, as a history, newest first; and what it is for that history to account for every block (document 02, W11).
-use Rattle.std.specs.Prelude.{ℕ, suc, ◌+◌, ◌≤◌, ◌<◌, Bool, true, false, cond, not, ◌||◌, List, [], ◌∷◌, ◌++◌, ◌⊎◌, ◌≡◌, eqb}
+use Rattle.std.specs.Prelude.{ℕ, suc, ◌+◌, ◌≤◌, ◌<◌, Bool, true, false, cond, not, ◌||◌, List, [], ◌∷◌, ◌++◌, ◌⊎◌, ◌≡◌, eqb, Ok, Some}
 use Rattle.std.proofs.Math.Option.{Option, none, some}
 use Rattle.common.specs.Every.{count_below}
 use Rattle.common.specs.CountLaws.{one}
 use Rattle.wire.specs.declared.Packet.{Packet}
-use Rattle.wire.specs.declared.Reading.TheVariants.{Read}
 use Rattle.wire.specs.Read.{read_of}
 use Rattle.sender.specs.declared.Sender.{Sender}
 use Rattle.sender.specs.Record.{most_sends, block_at}
@@ -168,7 +167,7 @@ pub record NamedWhilePending (w cap : ℕ) (h : List Entry) (e : Endpoint) (cs :
   pub splits : cs ≡ before ++ receives datagram ∷ later
   pub accepted : answer_of w cap (calls_of w cap e before) (receives datagram) ≡ 0
   pub packet : Packet
-  pub reads : read_of datagram ≡ Read packet
+  pub reads : read_of datagram ≡ Ok (Some packet)
   pub number : ℕ
   pub names : told_names (told_by (calls_of w cap e before).halves.sender datagram packet) number ≡ true
   pub transmission : Gone number c (history_of w cap h e before)

@@ -2,13 +2,12 @@
 -- is accepted or refused alike, and a pending packet becomes received exactly if an accepted one names it"; and, by document 02's W5, "all carrying the same
 -- LogWindowSize", which is asked only of what is said of the field. The outset e is any endpoint whose two halves are as receiving asks. By the calls cs the
 -- acknowledgements ds are received, with the events es between, takes and datagrams with no acknowledgement (Between, in History.antt).
-use Rattle.std.specs.Prelude.{ℕ, ◌≤◌, ◌<◌, Bool, true, false, cond, ◌||◌, List, [], ◌∷◌, map, ◌≡◌, refl, length}
+use Rattle.std.specs.Prelude.{ℕ, ◌≤◌, ◌<◌, Bool, true, false, cond, ◌||◌, List, [], ◌∷◌, map, ◌≡◌, refl, length, Ok, Some}
 use mathlib.Core.List.Memᴰ
 use Rattle.std.proofs.Common.{sym, ◌∙◌, ap}
 use Rattle.common.specs.Facts.{not_so}
 use Rattle.window.specs.Members.{In}
 use Rattle.wire.specs.declared.Packet.{Packet}
-use Rattle.wire.specs.declared.Reading.TheVariants.{Read}
 use Rattle.wire.specs.Read.{read_of}
 use Rattle.receiver.specs.Consistent as receiver_tests
 use Rattle.receiver.specs.History.{Event, run_of, datagrams_of}
@@ -31,7 +30,7 @@ pub record NamedBy (w cap : ℕ) (e : Halves) (ds : List (List ℕ)) (n : ℕ) :
   pub datagram : List ℕ
   pub listed : In datagram ds
   pub packet : Packet
-  pub reads : read_of datagram ≡ Read packet
+  pub reads : read_of datagram ≡ Ok (Some packet)
   pub accepted : receive_answer w cap e datagram ≡ 0
   pub names : told_names (told_by e.sender datagram packet) n ≡ true
 
@@ -40,7 +39,7 @@ pub record AcceptedBy (w cap : ℕ) (e : Halves) (ds : List (List ℕ)) : Type 0
   pub datagram : List ℕ
   pub listed : In datagram ds
   pub packet : Packet
-  pub reads : read_of datagram ≡ Read packet
+  pub reads : read_of datagram ≡ Ok (Some packet)
   pub accepted : receive_answer w cap e datagram ≡ 0
 
 -- Acknowledgements received in turn, with nothing between, are such a history.

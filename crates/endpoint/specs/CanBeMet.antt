@@ -1,6 +1,6 @@
 -- The premises of the endpoint's theorems can be met. A fresh endpoint is an outset for three datagrams of data, here in one history with a repeat and takes
 -- between; and one that has sent a block is an outset for an acknowledgement that is accepted and names it.
-use Rattle.std.specs.Prelude.{ℕ, true, List, [], ◌∷◌, ◌++◌, ◌≡◌, refl, replicate}
+use Rattle.std.specs.Prelude.{ℕ, true, List, [], ◌∷◌, ◌++◌, ◌≡◌, refl, replicate, Ok, Some}
 use mathlib.Core.List.Memᴰ
 use Rattle.std.proofs.Common.{inl, inr, sym, ◌∙◌, ap, subst, arith}
 use Rattle.std.proofs.lemmas.List.{length-replicate}
@@ -11,11 +11,10 @@ use Rattle.window.specs.Store.{place_size, store_size}
 use Rattle.window.specs.Free.{free}
 use Rattle.window.specs.Members.{In, among}
 use Rattle.wire.specs.declared.Packet.{Packet}
-use Rattle.wire.specs.declared.Reading.TheVariants.{Read}
 use Rattle.wire.specs.Flags.{outside, six_of}
 use Rattle.wire.specs.Frame.{swapped, dropped_by, end_of}
 use Rattle.wire.specs.Layout.{ack_end, overhead_end, delay_end, aoa_end, number_end, vector_end, channel_end, values_of, packet_of, part_of}
-use Rattle.wire.specs.Read.{read_of, read_packet}
+use Rattle.wire.specs.Read.{read_as, read_of, read_packet}
 use Rattle.wire.specs.Round.Found.{found}
 use Rattle.receiver.specs.CanBeMet.{fresh, five, waiving, late, three, three_are_a_set}
 use Rattle.receiver.specs.AnyOrder.{ready_of}
@@ -48,15 +47,15 @@ outset_sound =
     fresh_sound 32 32 (omega arith) (omega arith) 0 0 300 fresh.store (replicate (store_size 32) 0) refl (length-replicate {A = ℕ} (store_size 32) 0)
     (length-replicate {A = ℕ} (store_size 32) 0)
 
-read_once : (p q : Packet) → Read p ≡ Read q → p ≡ q
+read_once : (p q : Packet) → read_as p ≡ read_as q → p ≡ q
 read_once p q e = cc
 
 -- the flags of a datagram that reads as found
-pub flags_of : (d : List ℕ) (n : ℕ) → read_of d ≡ Read (found d) → (found d).values.flags ≡ n → (p : Packet) → read_of d ≡ Read p → p.values.flags ≡ n
+pub flags_of : (d : List ℕ) (n : ℕ) → read_of d ≡ Ok (Some (found d)) → (found d).values.flags ≡ n → (p : Packet) → read_of d ≡ Ok (Some p) → p.values.flags ≡ n
 flags_of d n r f p q = ap (λ (x : Packet). x.values.flags) (read_once p (found d) (sym q ∙ r)) ∙ f
 
 -- the LogWindowSize of one
-pub size_of : (d : List ℕ) (n : ℕ) → read_of d ≡ Read (found d) → (found d).values.logwindow ≡ n → Sized n d
+pub size_of : (d : List ℕ) (n : ℕ) → read_of d ≡ Ok (Some (found d)) → (found d).values.logwindow ≡ n → Sized n d
 size_of d n r f p q = ap (λ (x : Packet). x.values.logwindow) (read_once p (found d) (sym q ∙ r)) ∙ f
 
 -- what holds of three holds of each of their list
@@ -67,7 +66,7 @@ each_of P a b c x y z d (Memᴰ.tail (Memᴰ.tail (Memᴰ.tail x13))) = elim x13
 each_of P a b c x y z d (Memᴰ.tail (Memᴰ.tail (Memᴰ.head e))) = subst P (sym e) z
 
 abbrev pub Reads : List ℕ → ℕ → Type 0
-Reads d n = (read_of d ≡ Read (found d)) × ((found d).values.flags ≡ n)
+Reads d n = (read_of d ≡ Ok (Some (found d))) × ((found d).values.flags ≡ n)
 
 all_read : Reads five 4 × Reads waiving 20 × Reads late 20 × Reads one_ack 1
 unfolding every read_of read_packet first swapped dropped_by end_of outside six_of ack_end overhead_end delay_end aoa_end number_end vector_end channel_end values_of packet_of part_of

@@ -6,8 +6,7 @@ use Rattle.window.specs.Store.{store_size}
 use Rattle.sender.specs.Facts.{consistent_facts}
 use Rattle.sender.specs.SendReady.{sound_facts}
 use Rattle.sender.specs.Run.{has_acknowledged}
-use Rattle.endpoint.specs.declared.Opened.{Opened}
-use Rattle.endpoint.specs.Open.{open_answer, opened_of}
+use Rattle.endpoint.specs.Open.{Opens, open_answer, opened_of}
 use Rattle.endpoint.specs.Calls.{Endpoint, Call, calls_of}
 use Rattle.endpoint.specs.Sound.{Sound}
 use Rattle.endpoint.specs.Fresh.{endpoint_of, fresh_of, opened_fresh}
@@ -25,7 +24,7 @@ module _ (w cap : ℕ) (lw : 0 < w) (uw : w ≤ cap) (firstdata firstchannel tim
   -- THE THEOREM.
   pub every_block_accounted : Accounted w firstdata firstchannel (history_of w cap [] fresh cs) (calls_of w cap fresh cs).halves.sender
   every_block_accounted =
-      subst (λ (o : Opened).
+      subst (λ (o : Opens).
       Accounted w firstdata firstchannel (history_of w cap [] (endpoint_of o store sent) cs) (calls_of w cap (endpoint_of o store sent) cs).halves.sender)
       (sym (opened_fresh cap firstdata firstchannel timeout a))
       (books_account w cap lw uw firstdata firstchannel _ _ (consistent_facts w cap _ lw uw (sound_facts w cap _ _ (calls_keep w cap lw uw _ sound cs).sender).0)

@@ -1,12 +1,11 @@
 -- The endpoint that opening makes, with the two stores that are lent: store is the receiver's, sent the sender's.
 use Rattle.std.specs.Prelude.{ℕ, List, ◌≡◌, refl}
-use Rattle.endpoint.specs.declared.Opened.{Opened}
-use Rattle.endpoint.specs.Open.{open_answer, fresh_pair, opened_of}
+use Rattle.endpoint.specs.Open.{Opens, open_answer, fresh_pair, opened_of}
 use Rattle.endpoint.specs.Receive.{halves}
 use Rattle.endpoint.specs.Calls.{Endpoint}
 
 -- an endpoint of what a call of `open` answers
-abbrev pub endpoint_of : Opened → List ℕ → List ℕ → Endpoint
+abbrev pub endpoint_of : Opens → List ℕ → List ℕ → Endpoint
 endpoint_of o store sent = record { halves = halves o.sender o.receiver store; sent = sent }
 
 -- two fresh halves

@@ -1,8 +1,7 @@
 -- Histories of an endpoint, of which demand 3 speaks: datagrams that arrive and takes, as calls; the blocks that calls hand over; what such datagrams carry; and
 -- the calls that may stand between acknowledgements.
-use Rattle.std.specs.Prelude.{ℕ, ◌+◌, Bool, false, ◌||◌, List, [], ◌∷◌, ◌++◌, map, ◌⊎◌, ◌≡◌}
+use Rattle.std.specs.Prelude.{ℕ, ◌+◌, Bool, false, ◌||◌, List, [], ◌∷◌, ◌++◌, map, ◌⊎◌, ◌≡◌, Ok, Some}
 use Rattle.wire.specs.declared.Packet.{Packet}
-use Rattle.wire.specs.declared.Reading.TheVariants.{Read}
 use Rattle.wire.specs.Flags.{ack_in, vector_in}
 use Rattle.wire.specs.Read.{read_of}
 use Rattle.receiver.specs.Record.{State}
@@ -40,15 +39,15 @@ handed w cap e es = handed_by w cap e (map call_for es)
 
 -- "packets of data, with or without AckOfAcks", "no other payload": read, it has the flags DATA, or AOA and DATA
 abbrev pub OnlyData : List ℕ → Type 0
-OnlyData d = (p : Packet) → read_of d ≡ Read p → (p.values.flags ≡ 0x004) ⊎ (p.values.flags ≡ 0x010 + 0x004)
+OnlyData d = (p : Packet) → read_of d ≡ Ok (Some p) → (p.values.flags ≡ 0x004) ⊎ (p.values.flags ≡ 0x010 + 0x004)
 
 -- "packets carrying an acknowledgement only": read, it has the flag ACK alone, or ACKVEC alone; one that does not read may stand among them
 abbrev pub OnlyAck : List ℕ → Type 0
-OnlyAck d = (p : Packet) → read_of d ≡ Read p → (p.values.flags ≡ 0x001) ⊎ (p.values.flags ≡ 0x008)
+OnlyAck d = (p : Packet) → read_of d ≡ Ok (Some p) → (p.values.flags ≡ 0x001) ⊎ (p.values.flags ≡ 0x008)
 
 -- a datagram with no acknowledgement: read, it has neither the flag ACK nor the flag ACKVEC
 abbrev pub NoAck : List ℕ → Type 0
-NoAck d = (p : Packet) → read_of d ≡ Read p → (ack_in p.values.flags ≡ false) × (vector_in p.values.flags ≡ false)
+NoAck d = (p : Packet) → read_of d ≡ Ok (Some p) → (ack_in p.values.flags ≡ false) × (vector_in p.values.flags ≡ false)
 
 -- "with no send, resend or sweep between": calls cs by which the acknowledgements ds are received, in this order, and the events es happen, datagrams with no
 -- acknowledgement and takes, these too in this order; acknowledgements may be written at any moment

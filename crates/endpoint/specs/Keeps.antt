@@ -1,5 +1,5 @@
 -- The laws that StaysSound stands on: a datagram goes into both halves or into neither, and each call keeps each half.
-use Rattle.std.specs.Prelude.{ℕ, ◌%◌, ◌≤◌, ◌<◌, Bool, cond, List, ◌⊎◌, ◌≡◌, length}
+use Rattle.std.specs.Prelude.{ℕ, ◌%◌, ◌≤◌, ◌<◌, Bool, cond, List, ◌⊎◌, ◌≡◌, length, Err, Ok, Some, None}
 use Rattle.std.proofs.Math.Bool.{true, false}
 use Rattle.std.proofs.Math.Logic.{inl}
 use Rattle.std.proofs.Common.{inr, ⊎_elim, sym, ap, subst, arith, ltb-false, eq-eqb}
@@ -10,9 +10,7 @@ use Rattle.common.specs.EveryLaws.{all_every}
 use Rattle.common.specs.Facts.{clash}
 use Rattle.numbers.specs.Full.{highest_first}
 use Rattle.window.specs.Store.{sound_with, store_size}
-use Rattle.wire.specs.declared.Reading.{Reading}
-use Rattle.wire.specs.declared.Reading.TheVariants.{Refused, Dummy, Read}
-use Rattle.wire.specs.Read.{read_of}
+use Rattle.wire.specs.Read.{read_of, Reading}
 use Rattle.wire.specs.Round.Tests.{all_pass}
 use Rattle.receiver.specs.Consistent as receiver_tests
 use Rattle.receiver.specs.Receive as receiver
@@ -46,14 +44,14 @@ module _ (w cap : ℕ) (e : Halves) (d : List ℕ) where
   read_both : (x : Reading)
       → (read_into w e d x ≡ e) ⊎ (read_into w e d x ≡ paired (sender.read_into w e.sender d x) (receiver.read_into w (receiver_of e) d x))
   unfolding read_into sender.read_into sender.packet_of receiver.read_into packet_answer packet_of
-  read_both (Refused n) = inl refl
-  read_both Dummy = inl refl
-  read_both (Read p) = go (eqb (told_answer e.sender (told_by e.sender d p)) 0) refl
+  read_both (Err n) = inl refl
+  read_both (Ok None) = inl refl
+  read_both (Ok (Some p)) = go (eqb (told_answer e.sender (told_by e.sender d p)) 0) refl
     where
       -- a packet that the sender's half refuses is refused
       go : (b : Bool) → eqb (told_answer e.sender (told_by e.sender d p)) 0 ≡ b
           → (packet_of w e d p ≡ e)
-          ⊎ (packet_of w e d p ≡ paired (sender.packet_of w e.sender d p) (receiver.read_into w (receiver_of e) d (Read p)))
+          ⊎ (packet_of w e d p ≡ paired (sender.packet_of w e.sender d p) (receiver.read_into w (receiver_of e) d (Ok (Some p))))
       go true z = rw z (told_both (eqb (receiver.values_answer w e.receiver d p) 0) (packet_told w e d p))
       go false z = inl (rw (z, z) refl)
 

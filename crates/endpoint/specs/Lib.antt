@@ -25,4 +25,5 @@ pub mod Steps
 pub mod Brought
 pub mod Follows
 pub mod Keeps
+pub mod Known
 pub mod Accounting

@@ -1,11 +1,10 @@
 -- Receiving one datagram into both halves: "13, then reading, then 8, then 7". A packet with an acknowledgement and data is judged whole before either half
 -- changes; a dummy changes nothing. LogWindowSize is remembered by the sender's half (document 02, W5). DelayAckInfo and OverheadSize have no effect.
-use Rattle.std.specs.Prelude.{ℕ, Bool, cond, List, [], ◌∷◌, length, eqb}
+use Rattle.std.specs.Prelude.{ℕ, Bool, cond, List, [], ◌∷◌, length, eqb, Err, Ok, Some, None}
 use Rattle.common.specs.Every.{every}
 use Rattle.wire.specs.declared.Packet.{Packet}
-use Rattle.wire.specs.declared.Reading.{Reading}
-use Rattle.wire.specs.declared.Reading.TheVariants.{Refused, Dummy, Read}
-use Rattle.wire.specs.Read.{number_of, read_of}
+use Rattle.common.specs.Answer.{no_of}
+use Rattle.wire.specs.Read.{read_of, Reading}
 use Rattle.receiver.specs.declared.Receiver.{Receiver}
 use Rattle.receiver.specs.Record as receiving
 use Rattle.receiver.specs.Consistent as receiver_tests
@@ -52,14 +51,14 @@ unfoldable pub packet_of : ℕ → Halves → List ℕ → Packet → Halves
 packet_of w e d p = cond (eqb (packet_answer w e d p) 0) (packet_told w e d p) e
 
 unfoldable pub read_answer : ℕ → Halves → List ℕ → Reading → ℕ
-read_answer w e d (Refused n) = number_of (Refused n)
-read_answer w e d Dummy = number_of Dummy
-read_answer w e d (Read p) = packet_answer w e d p
+read_answer w e d (Err n) = no_of n
+read_answer w e d (Ok None) = 0
+read_answer w e d (Ok (Some p)) = packet_answer w e d p
 
 unfoldable pub read_into : ℕ → Halves → List ℕ → Reading → Halves
-read_into w e d (Refused n) = e
-read_into w e d Dummy = e
-read_into w e d (Read p) = packet_of w e d p
+read_into w e d (Err n) = e
+read_into w e d (Ok None) = e
+read_into w e d (Ok (Some p)) = packet_of w e d p
 
 -- the whole call
 unfoldable pub receive_answer : ℕ → ℕ → Halves → List ℕ → ℕ

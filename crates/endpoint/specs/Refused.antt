@@ -1,13 +1,11 @@
 -- The laws that RefusedChangesNothing stands on: each call, refused, leaves the endpoint as given.
-use Rattle.std.specs.Prelude.{ℕ, Bool, List, ◌≡◌, eqb, length}
+use Rattle.std.specs.Prelude.{ℕ, Bool, List, ◌≡◌, eqb, length, Err, Ok, Some, None}
 use Rattle.std.proofs.Math.Bool.{true, false, cond}
 use Rattle.std.proofs.Math.Path.{refl}
-use Rattle.std.proofs.Common.{sym, ◌∙◌, ap, arith, ne_eqb}
-use Rattle.common.specs.declared.Written.TheVariants.{Refused, Wrote}
-use Rattle.common.specs.Answer.{written_of}
-use Rattle.wire.specs.declared.Reading.{Reading}
-use Rattle.wire.specs.declared.Reading.TheVariants as reading
-use Rattle.wire.specs.Read.{read_of}
+use Rattle.std.proofs.Common.{sym, ap, ne_eqb}
+use Rattle.common.specs.declared.Refusal.{Refusal}
+use Rattle.common.specs.Answer.{written_of, settled_err}
+use Rattle.wire.specs.Read.{read_of, Reading}
 use Rattle.receiver.specs.declared.Receiver.{Receiver}
 use Rattle.receiver.specs.Take.{take_answer, taken_of}
 use Rattle.sender.specs.declared.Sender.{Sender}
@@ -18,11 +16,9 @@ use Rattle.endpoint.specs.Receive.{Halves, receiver_of, sound_of, packet_answer,
 use Rattle.endpoint.specs.Calls.{Endpoint, Call, receives, takes, acknowledges, sends, resends, sweeps, sending_of, with_sender, with_receiver, answer_of, call_of}
 
 -- A written answer that refuses has a number that is not 0.
-pub refused_not_zero : (a n : ℕ) (b : List ℕ) → written_of a b ≡ Refused n → a ≡ 0 → ⊥
+pub refused_not_zero : (a : ℕ) (r : Refusal) (b : List ℕ) → written_of a b ≡ Err r → a ≡ 0 → ⊥
 unfolding written_of
-refused_not_zero a n b r z =
-    let e : Wrote (length b) ≡ Refused n = sym (ap (λ (x : ℕ). written_of x b) z) ∙ r in
-    let one : ◌≡◌ {A = ℕ} 0 1 = cc in omega arith
+refused_not_zero a r b e = (settled_err r a (length b) (sym e)).0
 
 -- what is chosen where the answer is 0 is not chosen where it is not
 refused : {A : Type 0} (n : ℕ) (x y : A) → (n ≡ 0 → ⊥) → cond (eqb n 0) x y ≡ y
@@ -32,9 +28,9 @@ refused n x y h = rw (ne_eqb n 0 h) refl
 module _ (w cap : ℕ) (e : Halves) (d : List ℕ) where
   read_refused : (x : Reading) → (read_answer w e d x ≡ 0 → ⊥) → read_into w e d x ≡ e
   unfolding read_answer read_into packet_of
-  read_refused (reading.Refused n) h = refl
-  read_refused reading.Dummy h = refl
-  read_refused (reading.Read p) h = refused (packet_answer w e d p) (packet_told w e d p) e h
+  read_refused (Err n) h = refl
+  read_refused (Ok None) h = refl
+  read_refused (Ok (Some p)) h = refused (packet_answer w e d p) (packet_told w e d p) e h
 
   receive_refused : (receive_answer w cap e d ≡ 0 → ⊥) → receive_of w cap e d ≡ e
   unfolding receive_answer receive_of

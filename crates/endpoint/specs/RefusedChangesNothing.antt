@@ -1,10 +1,11 @@
 -- Demand 1, its last sentence, for the endpoint: "A refusal changes no record and no lent byte." Of every endpoint, sound or not, and every call: where the answer is not
 -- 0, both records and both stores are as given, and so is the lent output.
-use Rattle.std.specs.Prelude.{ℕ, List, [], ◌∷◌, ◌≡◌, refl}
+use Rattle.std.specs.Prelude.{ℕ, List, [], ◌∷◌, ◌≡◌, refl, Err}
 use Rattle.std.proofs.Common.{sym, ◌∙◌, ap}
-use Rattle.common.specs.declared.Written.TheVariants.{Refused}
-use Rattle.common.specs.Answer.{number_of, written_of, number_written, left_refused}
+use Rattle.common.specs.declared.Refusal.{Refusal}
+use Rattle.common.specs.Answer.{no_of, number_of, written_of, number_written, left_refused}
 use Rattle.endpoint.specs.Calls.{Endpoint, Call, answer_of, writes_of, output_of, call_of, calls_of}
+use Rattle.endpoint.specs.Known.{answers_known}
 use Rattle.endpoint.specs.Refused.{call_refused, refused_not_zero}
 
 pub refused_changes_nothing : (w cap : ℕ) (e : Endpoint) (c : Call) → (answer_of w cap e c ≡ 0 → ⊥)
@@ -12,12 +13,12 @@ pub refused_changes_nothing : (w cap : ℕ) (e : Endpoint) (c : Call) → (answe
 refused_changes_nothing w cap e c h =
     (call_refused w cap e c h, λ out. sym (left_refused (answer_of w cap e c) (answer_of w cap e c) (writes_of w e c) out refl h))
 
--- The same of a call that writes, by the answer that it gives: Refused n stands for the number n, which is not 0.
-pub refused_writes_nothing : (w cap : ℕ) (e : Endpoint) (c : Call) (n : ℕ) → written_of (answer_of w cap e c) (writes_of w e c) ≡ Refused n
-    → (answer_of w cap e c ≡ n) × (call_of w cap e c ≡ e) × ((out : List ℕ) → output_of w cap e c out ≡ out)
-refused_writes_nothing w cap e c n r =
-    let (left, bytes) = refused_changes_nothing w cap e c (refused_not_zero (answer_of w cap e c) n (writes_of w e c) r) in
-    (sym (number_written (answer_of w cap e c) (writes_of w e c)) ∙ ap number_of r, left, bytes)
+-- The same of a call that writes, by the answer that it gives: Err n stands for the number n, which is not 0.
+pub refused_writes_nothing : (w cap : ℕ) (e : Endpoint) (c : Call) (r : Refusal) → written_of (answer_of w cap e c) (writes_of w e c) ≡ Err r
+    → (answer_of w cap e c ≡ no_of r) × (call_of w cap e c ≡ e) × ((out : List ℕ) → output_of w cap e c out ≡ out)
+refused_writes_nothing w cap e c r h =
+    let (left, bytes) = refused_changes_nothing w cap e c (refused_not_zero (answer_of w cap e c) r (writes_of w e c) h) in
+    (sym (number_written (answer_of w cap e c) (writes_of w e c) (answers_known w cap e c)) ∙ ap number_of h, left, bytes)
 
 -- each call of a list is refused, given what the call before left
 abbrev pub AllRefused : ℕ → ℕ → Endpoint → List Call → Type 0

@@ -1,14 +1,13 @@
 -- Document 02, W5: "The sender now remembers the field of the last accepted data-type packet." Of every endpoint and every sequence of calls: the LogWindowSize that the
 -- sender's half holds afterwards is that of the last datagram among them that is a packet of type 0 and was accepted, and where there is none the outset's. No other
 -- call moves it, and neither does a dummy or a datagram that is refused.
-use Rattle.std.specs.Prelude.{ℕ, Bool, List, [], ◌∷◌, ◌≡◌, eqb}
+use Rattle.std.specs.Prelude.{ℕ, Bool, List, [], ◌∷◌, ◌≡◌, eqb, Err, Ok, Some, None}
 use Rattle.std.proofs.Math.Bool.{true, false, cond}
 use Rattle.std.proofs.Math.Option.{Option, none, some}
 use Rattle.std.proofs.Math.Path.{refl, sym}
 use Rattle.std.proofs.Common.{◌∙◌, ap}
-use Rattle.wire.specs.declared.Reading.{Reading}
-use Rattle.wire.specs.declared.Reading.TheVariants.{Refused, Dummy, Read}
-use Rattle.wire.specs.Read.{read_of}
+use Rattle.common.specs.Answer.{no_of}
+use Rattle.wire.specs.Read.{read_of, Reading}
 use Rattle.sender.specs.declared.Sender.{Sender}
 use Rattle.sender.specs.Record.{State}
 use Rattle.sender.specs.Send.{new_answer, new_of, lowest_waiting, resend_answer, resent_for, resend_of}
@@ -44,9 +43,9 @@ module _ (w cap : ℕ) (e : Halves) (d : List ℕ) where
   read_hears : (x : Reading)
       → (read_into w e d x).sender.logwindow ≡ cond (eqb (read_answer w e d x) 0) (size_in x e.sender.logwindow) e.sender.logwindow
   unfolding read_into read_answer packet_of size_in
-  read_hears (Refused n) = sym (either_way (eqb n 0) e.sender.logwindow)
-  read_hears Dummy = refl
-  read_hears (Read p) = go (eqb (packet_answer w e d p) 0)
+  read_hears (Err n) = sym (either_way (eqb (no_of n) 0) e.sender.logwindow)
+  read_hears (Ok None) = refl
+  read_hears (Ok (Some p)) = go (eqb (packet_answer w e d p) 0)
     where
       go : (b : Bool) → (cond b (packet_told w e d p) e).sender.logwindow ≡ cond b p.values.logwindow e.sender.logwindow
       go true = refl

@@ -4,8 +4,7 @@ use Rattle.std.specs.Prelude.{ℕ, ◌≤◌, ◌<◌, ◌≡◌, length}
 use mathlib.Core.List.{List, [], ◌∷◌}
 use Rattle.std.proofs.Common.{sym, subst}
 use Rattle.window.specs.Store.{store_size}
-use Rattle.endpoint.specs.declared.Opened.{Opened}
-use Rattle.endpoint.specs.Open.{open_answer, opened_of}
+use Rattle.endpoint.specs.Open.{Opens, open_answer, opened_of}
 use Rattle.endpoint.specs.Calls.{Endpoint, Call, call_of, calls_of}
 use Rattle.endpoint.specs.Sound.{Sound}
 use Rattle.endpoint.specs.Fresh.{endpoint_of, fresh_of, opened_fresh}
@@ -31,6 +30,6 @@ module _ (w cap : ℕ) (lw : 0 < w) (uw : w ≤ cap) where
       → Sound w cap (calls_of w cap (endpoint_of (opened_of cap firstdata firstchannel timeout) store sent) cs)
   reached_sound firstdata firstchannel timeout store sent a ls lt cs =
       calls_keep (endpoint_of (opened_of cap firstdata firstchannel timeout) store sent)
-      (subst (λ (o : Opened). Sound w cap (endpoint_of o store sent)) (sym (opened_fresh cap firstdata firstchannel timeout a))
+      (subst (λ (o : Opens). Sound w cap (endpoint_of o store sent)) (sym (opened_fresh cap firstdata firstchannel timeout a))
       (fresh_sound firstdata firstchannel timeout store sent a ls lt))
       cs

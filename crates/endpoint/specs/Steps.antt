@@ -1,18 +1,17 @@
 -- What one datagram does to an endpoint, half by half: one that tells the sender nothing goes to the receiver alone, but for its LogWindowSize, and one that brings
 -- the receiver nothing goes to the sender alone.
-use Rattle.std.specs.Prelude.{ℕ, Bool, List, ◌⊎◌, ◌≡◌, length, eqb}
+use Rattle.std.specs.Prelude.{ℕ, Bool, List, ◌⊎◌, ◌≡◌, length, eqb, Err, Ok, Some, None}
 use Rattle.std.proofs.Math.Bool.{true, false, cond}
 use Rattle.std.proofs.Common.{inl, inr, sym, ◌∙◌, eqb-true}
 use Rattle.std.proofs.Math.Option.{Option, none, some}
 use Rattle.std.proofs.Math.Path.{refl, ap}
 use Rattle.common.specs.Every.{every}
 use Rattle.common.specs.EveryLaws.{every_all, all_every}
+use Rattle.common.specs.Answer.{no_of}
 use Rattle.wire.specs.declared.Values.{Values}
 use Rattle.wire.specs.declared.Packet.{Packet}
-use Rattle.wire.specs.declared.Reading.{Reading}
-use Rattle.wire.specs.declared.Reading.TheVariants.{Refused, Dummy, Read}
 use Rattle.wire.specs.Flags.{ack_in, vector_in}
-use Rattle.wire.specs.Read.{read_of}
+use Rattle.wire.specs.Read.{read_of, Reading}
 use Rattle.wire.specs.Same.{body_in}
 use Rattle.receiver.specs.declared.Receiver.{Receiver}
 use Rattle.receiver.specs.Record as receiving
@@ -151,9 +150,9 @@ module _ (w cap : ℕ) (e : Halves) (d : List ℕ) (only : NoAck d) (s : sender_
       → (read_answer w e d r ≡ receiver.read_answer w e.receiver d r)
       × (read_into w e d r ≡ paired (remembering (field_by (receiver.read_answer w e.receiver d r) r) e.sender) (receiver.read_into w (receiver_of e) d r))
   unfolding read_answer read_into receiver.read_answer receiver.read_into size_in
-  read_quiet (Refused n) q = (refl, ap (λ (k : ℕ). paired (remembering k e.sender) (receiver_of e)) (sym (either_way (eqb n 0) e.sender.logwindow)))
-  read_quiet Dummy q = (refl, refl)
-  read_quiet (Read p) q =
+  read_quiet (Err n) q = (refl, ap (λ (k : ℕ). paired (remembering k e.sender) (receiver_of e)) (sym (either_way (eqb (no_of n) 0) e.sender.logwindow)))
+  read_quiet (Ok None) q = (refl, refl)
+  read_quiet (Ok (Some p)) q =
       let t : told_by e.sender d p ≡ silent = tells_nothing e.sender d p (only p q) in (quiet_answer w e d p t, quiet_of w e d p t)
 
   sound_is : sound_of w cap e ≡ receiver_tests.sound_of w cap e.receiver (length e.store)
@@ -184,9 +183,9 @@ module _ (w cap : ℕ) (e : Halves) (d : List ℕ) (only : OnlyAck d) (r : recei
   read_idle : (x : Reading) → read_of d ≡ x
       → (read_answer w e d x ≡ sender.read_answer e.sender d x) × (read_into w e d x ≡ paired (sender.read_into w e.sender d x) (receiver_of e))
   unfolding read_answer read_into sender.read_answer sender.read_into
-  read_idle (Refused n) q = (refl, refl)
-  read_idle Dummy q = (refl, refl)
-  read_idle (Read p) q =
+  read_idle (Err n) q = (refl, refl)
+  read_idle (Ok None) q = (refl, refl)
+  read_idle (Ok (Some p)) q =
       let t : arrival_from e.receiver p.values (body_in d p) ≡ some nothing = brings_nothing e.receiver p.values (body_in d p) (only p q) in
       (idle_answer w e d p t, idle_of w e d p t)
 

@@ -1,6 +1,6 @@
 -- The premises of demand 3's first half can be met by 32 datagrams: with and without AckOfAcks, one data number and one block missing, one block carried twice.
 -- They are such a set for a fresh endpoint, so every history that covers them hands over blocks 0 to 19 and leaves base at 9, end at 32 and due at 20.
-use Rattle.std.specs.Prelude.{ℕ, zero, suc, ◌+◌, ◌-◌, ◌%◌, ◌/◌, ◌<◌, Bool, true, false, cond, List, [], ◌∷◌, ◌++◌, map, ◌⊎◌, ◌≡◌, refl, eqb, length, get_or, replicate}
+use Rattle.std.specs.Prelude.{ℕ, zero, suc, ◌+◌, ◌-◌, ◌%◌, ◌/◌, ◌<◌, Bool, true, false, cond, List, [], ◌∷◌, ◌++◌, map, ◌⊎◌, ◌≡◌, refl, eqb, length, get_or, replicate, Err, Ok, Some, None}
 use mathlib.Core.List.Memᴰ
 use Rattle.std.proofs.Common.{inl, inr, sym, ◌∙◌, ap, subst, arith, eqb-true}
 use Rattle.std.proofs.Math.Option.{Option, none, some}
@@ -13,13 +13,11 @@ use Rattle.window.specs.Places.{tabulate, length_tabulate, get_d_tabulate}
 use Rattle.window.specs.Free.{free}
 use Rattle.window.specs.Members.{In, among, top}
 use Rattle.wire.specs.declared.Packet.{Packet as WirePacket}
-use Rattle.wire.specs.declared.Reading.{Reading}
-use Rattle.wire.specs.declared.Reading.TheVariants.{Refused, Dummy, Read}
 use Rattle.wire.specs.declared.Values.{Values}
 use Rattle.wire.specs.Flags.{data_in, outside, six_of, either}
 use Rattle.wire.specs.Frame.{swapped, dropped_by, end_of, framed, prefix_for, padded}
 use Rattle.wire.specs.Layout.{no_ack, no_delay, no_vector, ack_end, overhead_end, delay_end, aoa_end, number_end, vector_end, channel_end, values_of, packet_of, part_of}
-use Rattle.wire.specs.Read.{read_of, read_packet}
+use Rattle.wire.specs.Read.{read_of, read_packet, Reading}
 use Rattle.wire.specs.Same.{body_in}
 use Rattle.wire.specs.Write.{packet_bytes, datagram_of}
 use Rattle.receiver.specs.declared.Receiver.{Receiver}
@@ -112,9 +110,9 @@ map_tabulate (suc n) g f h same =
 
 -- what a datagram brings that was read as flagged DATA, or AOA and DATA
 abbrev brought : List ℕ → Reading → Option Packet
-brought d (Refused n) = none
-brought d Dummy = none
-brought d (Read p) =
+brought d (Err n) = none
+brought d (Ok None) = none
+brought d (Ok (Some p)) =
     cond (either (eqb p.values.flags 0x004) (eqb p.values.flags 0x014)) (packet_from fresh.receiver p.values (body_in d p)) none
 
 all_bytes : all_below (λ i. every (small (datagram i))) 32 ≡ true
@@ -134,7 +132,7 @@ one_brings i l =
 
 record Brings (d : List ℕ) (q : Packet) : Type 0 where
   taken : WirePacket
-  reads : read_of d ≡ Read taken
+  reads : read_of d ≡ Ok (Some taken)
   only : (taken.values.flags ≡ 0x004) ⊎ (taken.values.flags ≡ 0x014)
   widens : packet_from fresh.receiver taken.values (body_in d taken) ≡ some q
 
@@ -144,16 +142,16 @@ no_packet_lem q e = let z : ◌≡◌ {A = ℕ} 0 1 = cc in absurd (omega arith)
 brings : (d : List ℕ) (q : Packet) → brought d (read_of d) ≡ some q → Brings d q
 brings d q e = go (read_of d) refl e
   where
-    flagged : (p : WirePacket) → read_of d ≡ Read p → (a b : Bool) → eqb p.values.flags 0x004 ≡ a → eqb p.values.flags 0x014 ≡ b
+    flagged : (p : WirePacket) → read_of d ≡ Ok (Some p) → (a b : Bool) → eqb p.values.flags 0x004 ≡ a → eqb p.values.flags 0x014 ≡ b
         → cond (either a b) (packet_from fresh.receiver p.values (body_in d p)) none ≡ some q → Brings d q
     flagged p r true b s t w = record { taken = p; reads = r; only = inl (eqb-true p.values.flags 0x004 s); widens = w }
     flagged p r false true s t w = record { taken = p; reads = r; only = inr (eqb-true p.values.flags 0x014 t); widens = w }
     flagged p r false false s t w = no_packet_lem q w
 
     go : (x : Reading) → read_of d ≡ x → brought d x ≡ some q → Brings d q
-    go (Refused n) r w = no_packet_lem q w
-    go Dummy r w = no_packet_lem q w
-    go (Read p) r w = flagged p r _ _ refl refl w
+    go (Err n) r w = no_packet_lem q w
+    go (Ok None) r w = no_packet_lem q w
+    go (Ok (Some p)) r w = flagged p r _ _ refl refl w
 
 carries_data : (flags : ℕ) → (flags ≡ 0x004) ⊎ (flags ≡ 0x014) → data_in flags ≡ true
 carries_data flags (inl e) = ap data_in e

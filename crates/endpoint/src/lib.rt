@@ -3,63 +3,64 @@
 #![tactic(auto)]
 
 ghost use Rattle.std.specs.Prelude.{◌≡◌};
-ghost use Rattle.endpoint.specs.Open.{open_answer, opened_of};
+ghost use Rattle.common.specs.Answer.{answered_of};
+ghost use Rattle.endpoint.specs.Open.{open_answer, opened_of, told_of};
 
+use common::Refusal;
 use receiver::Receiver;
 use sender::Sender;
 
 // The highest first number of either kind.
 const FIRST: u32 = numbers::FIRST as u32;
 
-// What opening answers: document 01's number, and both records; where it is refused they are all zero, and the sender's is inconsistent.
+// What opening answers, and both records; where it is refused they are all zero, and the sender's is inconsistent.
 #[derive(Clone, Copy)]
 pub struct Opened {
-    // Document 01's number.
-    pub answer: u8,
+    // The refusal, if it is one.
+    pub answer: Result<(), Refusal>,
     // The sender's half.
     pub sender: Sender,
     // The receiver's half.
     pub receiver: Receiver,
 }
 
-// Document 01's number for what an endpoint is to be opened with.
-fn open_answer(firstdata: u32, firstchannel: u32, timeout: u32) -> u8
-    ensures { result ≡ open_answer firstdata firstchannel timeout }
+// Judges what an endpoint is to be opened with: refused with 15.
+#[tactic(auto, unfolding(crate::specs::Open::open_answer, common::specs::Order::first, common::specs::Answer::answered_of, common::specs::Answer::refusal_of,))]
+fn judge(firstdata: u32, firstchannel: u32, timeout: u32) -> Result<(), Refusal>
+    ensures { result ≡ answered_of (open_answer firstdata firstchannel timeout) }
 {
-    if FIRST < firstdata {
-        return 15;
+    if FIRST < firstdata
+        || FIRST < firstchannel
+        || timeout < sender::SHORTEST_TIMEOUT
+        || sender::LONGEST_TIMEOUT < timeout
+    {
+        return Err(Refusal::Opening);
     }
-    if FIRST < firstchannel {
-        return 15;
-    }
-    if timeout < sender::SHORTEST_TIMEOUT {
-        return 15;
-    }
-    if sender::LONGEST_TIMEOUT < timeout {
-        return 15;
-    }
-    0
+    Ok(())
 }
 
 // Opens an endpoint: the first number of each kind, for both directions alike, and the loss timeout. Refused with 15.
 pub fn open(firstdata: u32, firstchannel: u32, timeout: u32) -> Opened
-    ensures { result ≡ opened_of 32 firstdata firstchannel timeout }
+    ensures { result ≡ told_of (opened_of 32 firstdata firstchannel timeout) }
 {
-    let answer = open_answer(firstdata, firstchannel, timeout);
-    if answer != 0 {
-        let mut zero = sender::opened(0, 0, 0);
-        zero.logwindow = 0;
-        return Opened {
-            answer,
-            sender: zero,
-            receiver: receiver::opened(0, 0),
-        };
-    }
-    let data = firstdata as u16;
-    let channel = firstchannel as u16;
-    Opened {
-        answer: 0,
-        sender: sender::opened(data, channel, timeout),
-        receiver: receiver::opened(data, channel),
+    match judge(firstdata, firstchannel, timeout) {
+        Err(refusal) => {
+            let mut zero = sender::opened(0, 0, 0);
+            zero.logwindow = 0;
+            Opened {
+                answer: Err(refusal),
+                sender: zero,
+                receiver: receiver::opened(0, 0),
+            }
+        }
+        Ok(()) => {
+            let data = firstdata as u16;
+            let channel = firstchannel as u16;
+            Opened {
+                answer: Ok(()),
+                sender: sender::opened(data, channel, timeout),
+                receiver: receiver::opened(data, channel),
+            }
+        }
     }
 }

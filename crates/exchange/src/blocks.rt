@@ -8,42 +8,27 @@ fn length(k: u32) -> usize {
 
 // The i-th byte of block k.
 fn byte(k: u32, i: usize) -> u8 {
-    if i == 0 {
-        return (k % 256) as u8;
+    match i {
+        0 => (k % 256) as u8,
+        1 => (k / 256 % 256) as u8,
+        2 => (k / 65536 % 256) as u8,
+        _ => ((k as u64 % 251 + i as u64 % 251) % 251) as u8,
     }
-    if i == 1 {
-        return (k / 256 % 256) as u8;
-    }
-    if i == 2 {
-        return (k / 65536 % 256) as u8;
-    }
-    ((k as u64 % 251 + i as u64 % 251) % 251) as u8
 }
 
-// Writes block k, and answers its length.
+// Writes block k as far as there is room, and answers how many bytes that is.
 pub(crate) fn make(out: &mut [u8], k: u32) -> usize {
-    let n = length(k);
-    for i in 0..n {
-        if out.len() <= i {
-            return i;
-        }
-        out[i] = byte(k, i);
+    let n = length(k).min(out.len());
+    for (i, b) in out[..n].iter_mut().enumerate() {
+        *b = byte(k, i);
     }
     n
 }
 
 // Are the first n bytes block k?
 pub(crate) fn is(block: &[u8], n: usize, k: u32) -> bool {
-    if n != length(k) {
+    if n != length(k) || block.len() < n {
         return false;
     }
-    for i in 0..n {
-        if block.len() <= i {
-            return false;
-        }
-        if block[i] != byte(k, i) {
-            return false;
-        }
-    }
-    true
+    block[..n].iter().enumerate().all(|(i, b)| *b == byte(k, i))
 }

@@ -1,8 +1,10 @@
 // A channel of eight places. A datagram is put at a place that the rule names, over what may stand there; what arrives is taken from a place that
 // the rule names, and may be left there to arrive once more. So the channel loses, doubles, delays and reorders.
 
-// The bytes of a channel, and of a place in it: a length, then the datagram.
-pub const SIZE: usize = 512;
+// The bytes of a channel, its places, and the bytes of a place: a length, then the datagram. No datagram has the length 0.
+pub const SIZE: usize = PLACES * PLACE;
+
+const PLACES: usize = 8;
 
 const PLACE: usize = 64;
 
@@ -21,66 +23,33 @@ pub(crate) fn place(seed: u32, behind: u32) -> usize {
     ((seed / 65536 % 8 + behind % 8) % 8) as usize
 }
 
-// Is a datagram at this place?
-pub(crate) fn holds(channel: &[u8], at: usize) -> bool {
-    if 7 < at {
-        return false;
-    }
-    if channel.len() != SIZE {
-        return false;
-    }
-    channel[at * PLACE] != 0
-}
-
-// Puts a datagram's bytes at a place.
+// Puts a datagram at a place, over what may stand there.
 pub(crate) fn put(channel: &mut [u8], at: usize, datagram: &[u8]) {
-    if 7 < at {
+    let n = datagram.len();
+    if PLACES <= at || channel.len() != SIZE || PLACE <= n {
         return;
     }
-    if channel.len() != SIZE {
-        return;
-    }
-    if 63 < datagram.len() {
-        return;
-    }
-    common::put(channel, at * PLACE + 1, datagram);
+    let from = at * PLACE;
+    channel[from] = n as u8;
+    channel[from + 1..from + 1 + n].copy_from_slice(datagram);
 }
 
-// A datagram of so many bytes stands at a place; none, where there are no bytes.
-pub(crate) fn mark(channel: &mut [u8], at: usize, n: usize) {
-    if 7 < at {
-        return;
+// Takes out what stands at a place.
+pub(crate) fn clear(channel: &mut [u8], at: usize) {
+    if at < PLACES && channel.len() == SIZE {
+        channel[at * PLACE] = 0;
     }
-    if channel.len() != SIZE {
-        return;
-    }
-    if 63 < n {
-        return;
-    }
-    channel[at * PLACE] = n as u8;
 }
 
-// A byte as a length.
-fn wide(b: u8) -> usize {
-    b as usize
-}
-
-// Copies out what stands at a place, and answers its length.
-pub(crate) fn get(channel: &[u8], at: usize, datagram: &mut [u8]) -> usize {
-    if 7 < at {
-        return 0;
+// The datagram that stands at a place.
+pub(crate) fn get(channel: &[u8], at: usize) -> Option<&[u8]> {
+    if PLACES <= at || channel.len() != SIZE {
+        return None;
     }
-    if channel.len() != SIZE {
-        return 0;
+    let from = at * PLACE;
+    let n = channel[from] as usize;
+    if n == 0 || PLACE <= n {
+        return None;
     }
-    if datagram.len() != PLACE {
-        return 0;
-    }
-    let n = wide(channel[at * PLACE]);
-    if 63 < n {
-        return 0;
-    }
-    let from = at * PLACE + 1;
-    common::put(datagram, 0, &channel[from..from + n]);
-    n
+    Some(&channel[from + 1..from + 1 + n])
 }

@@ -1,11 +1,8 @@
 // One end: the two records of an endpoint, and what it has counted.
 use crate::{blocks, channel};
-use common::Written;
+use common::Refusal;
 use receiver::Receiver;
 use sender::Sender;
-
-// The refusal of a resend whose block was sent six times.
-const SPENT: u8 = 22;
 
 // The two records of an endpoint, and its counts.
 #[derive(Clone, Copy)]
@@ -31,11 +28,9 @@ pub struct End {
 // An end that has sent nothing.
 pub(crate) fn opened(firstdata: u32, firstchannel: u32) -> End {
     let o = endpoint::open(firstdata, firstchannel, 300);
-    let s = o.sender;
-    let r = o.receiver;
     End {
-        sender: s,
-        receiver: r,
+        sender: o.sender,
+        receiver: o.receiver,
         sent: 0,
         handed: 0,
         wrong: 0,
@@ -48,54 +43,43 @@ pub(crate) fn opened(firstdata: u32, firstchannel: u32) -> End {
     }
 }
 
-// One more.
-fn more(n: u32) -> u32 {
-    std::num::wrapping_add_u32(n, 1)
-}
-
-// The first n bytes of a datagram arrive.
-fn arrives(e: End, store: &mut [u8], datagram: &[u8], n: usize) -> End {
-    if datagram.len() < n {
-        return e;
+// A datagram arrives.
+fn arrives(e: End, store: &mut [u8], datagram: &[u8]) -> End {
+    let got = receiving::receive(e.sender, e.receiver, store, datagram);
+    End {
+        sender: got.sender,
+        receiver: got.receiver,
+        refused: e.refused.wrapping_add(got.answer.is_err() as u32),
+        ..e
     }
-    let got = receiving::receive(e.sender, e.receiver, store, &datagram[..n]);
-    let s = got.sender;
-    let r = got.receiver;
-    let mut q = e;
-    q.sender = s;
-    q.receiver = r;
-    if got.answer != 0 {
-        q.refused = more(e.refused);
-    }
-    q
 }
 
 // What stands at a place of the channel arrives, if anything does.
 fn receives(e: End, store: &mut [u8], channel: &[u8], at: usize) -> End {
-    if !channel::holds(channel, at) {
-        return e;
+    match channel::get(channel, at) {
+        Some(datagram) => arrives(e, store, datagram),
+        None => e,
     }
-    let mut datagram = [0u8; 64];
-    let n = channel::get(channel, at, &mut datagram);
-    arrives(e, store, &datagram, n)
 }
 
 // Takes the block due, if it is held, and compares it with the other end's next.
 pub(crate) fn takes(e: End, store: &[u8]) -> End {
     let mut block = [0u8; 64];
     let got = taking::take(e.receiver, store, &mut block);
-    let r = got.receiver;
-    let mut q = e;
-    q.receiver = r;
-    let w = got.written;
-    let Written::Wrote(n) = w else {
-        return q;
+    let Ok(n) = got.written else {
+        return End {
+            receiver: got.receiver,
+            ..e
+        };
     };
-    q.handed = more(e.handed);
-    if !blocks::is(&block, n, e.handed) {
-        q.wrong = more(e.wrong);
+    End {
+        receiver: got.receiver,
+        handed: e.handed.wrapping_add(1),
+        wrong: e
+            .wrong
+            .wrapping_add(!blocks::is(&block, n, e.handed) as u32),
+        ..e
     }
-    q
 }
 
 // Puts the first n bytes into the channel.
@@ -103,44 +87,34 @@ fn puts(e: End, channel: &mut [u8], at: usize, datagram: &[u8], n: usize) -> End
     if datagram.len() < n {
         return e;
     }
-    let mut q = e;
-    if channel::holds(channel, at) {
-        q.covered = more(e.covered);
-    }
+    let covered = channel::get(channel, at).is_some();
     channel::put(channel, at, &datagram[..n]);
-    channel::mark(channel, at, n);
-    q
-}
-
-// The number of a refusal, and 0 where there is none.
-fn refusal(w: Written) -> u8 {
-    if let Written::Refused(n) = w {
-        return n;
+    End {
+        covered: e.covered.wrapping_add(covered as u32),
+        ..e
     }
-    0
 }
 
 // Sends a waiting block again, or else the next one, up to so many. An end whose block was sent six times gives up.
 fn sends(e: End, sent: &mut [u8], channel: &mut [u8], at: usize, tick: u32, upto: u32) -> End {
     let mut datagram = [0u8; 64];
     let again = resending::resend(e.sender, sent, tick, &mut datagram);
-    let w = again.written;
-    if let Written::Wrote(n) = w {
-        let mut q = e;
-        let s = again.sender;
-        q.sender = s;
-        q.resent = more(e.resent);
-        return puts(q, channel, at, &datagram, n);
+    match again.written {
+        Ok(n) => {
+            let q = End {
+                sender: again.sender,
+                resent: e.resent.wrapping_add(1),
+                ..e
+            };
+            puts(q, channel, at, &datagram, n)
+        }
+        Err(Refusal::Spent) => End {
+            stopped: e.stopped.wrapping_add(1),
+            ..e
+        },
+        Err(_) if upto <= e.sent => e,
+        Err(_) => new(e, sent, channel, at, tick),
     }
-    if refusal(w) == SPENT {
-        let mut q = e;
-        q.stopped = more(e.stopped);
-        return q;
-    }
-    if upto <= e.sent {
-        return e;
-    }
-    new(e, sent, channel, at, tick)
 }
 
 // Sends the next block, if the window has room.
@@ -148,25 +122,25 @@ fn new(e: End, sent: &mut [u8], channel: &mut [u8], at: usize, tick: u32) -> End
     let mut datagram = [0u8; 64];
     let mut block = [0u8; 64];
     let k = blocks::make(&mut block, e.sent);
-    if 64 < k {
+    if block.len() < k {
         return e;
     }
     let got = sending::send(e.sender, sent, tick, &block[..k], &mut datagram);
-    let w = got.written;
-    let Written::Wrote(n) = w else {
+    let Ok(n) = got.written else {
         return e;
     };
-    let mut q = e;
-    let s = got.sender;
-    q.sender = s;
-    q.sent = more(e.sent);
+    let q = End {
+        sender: got.sender,
+        sent: e.sent.wrapping_add(1),
+        ..e
+    };
     puts(q, channel, at, &datagram, n)
 }
 
 // Writes an acknowledgement, if there is one to write.
 fn acknowledges(e: End, channel: &mut [u8], at: usize, tick: u32) -> End {
     let mut datagram = [0u8; 64];
-    let Written::Wrote(n) = reporting::acknowledge(e.receiver, tick, 0, &mut datagram) else {
+    let Ok(n) = reporting::acknowledge(e.receiver, tick, 0, &mut datagram) else {
         return e;
     };
     puts(e, channel, at, &datagram, n)
@@ -175,25 +149,26 @@ fn acknowledges(e: End, channel: &mut [u8], at: usize, tick: u32) -> End {
 // A sweep.
 fn sweeps(e: End, tick: u32) -> End {
     let got = sweeping::sweep(e.sender, tick);
-    let s = got.sender;
-    let mut q = e;
-    q.sender = s;
-    q.lost = std::num::wrapping_add_u32(e.lost, got.lost);
-    q
+    End {
+        sender: got.sender,
+        lost: e.lost.wrapping_add(got.lost.unwrap_or(0)),
+        ..e
+    }
 }
 
 // What arrived is taken out of the channel, or left there to arrive once more.
 fn leaves(e: End, channel: &mut [u8], at: usize, stays: bool) -> End {
-    if !channel::holds(channel, at) {
+    if channel::get(channel, at).is_none() {
         return e;
     }
-    let mut q = e;
     if stays {
-        q.doubled = more(e.doubled);
-        return q;
+        return End {
+            doubled: e.doubled.wrapping_add(1),
+            ..e
+        };
     }
-    channel::mark(channel, at, 0);
-    q
+    channel::clear(channel, at);
+    e
 }
 
 // What comes in at this place: a datagram, and the block due.
@@ -206,7 +181,13 @@ fn hears_at(e: End, store: &mut [u8], channel: &mut [u8], seed: u32, at: usize) 
 // What comes in at two places, the first so many behind the one that the rule names.
 fn hears_two(e: End, store: &mut [u8], channel: &mut [u8], seed: u32, behind: u32) -> End {
     let q = hears_at(e, store, channel, seed, channel::place(seed, behind));
-    hears_at(q, store, channel, seed, channel::place(seed, more(behind)))
+    hears_at(
+        q,
+        store,
+        channel,
+        seed,
+        channel::place(seed, behind.wrapping_add(1)),
+    )
 }
 
 // What comes in at this tick, at four places: so seldom is a datagram covered that no block is sent a seventh time.
@@ -218,10 +199,11 @@ fn hears(e: End, store: &mut [u8], channel: &mut [u8], seed: u32) -> End {
 // What goes out at this tick: an acknowledgement or a block; every now and then a sweep before it.
 fn says(e: End, sent: &mut [u8], channel: &mut [u8], seed: u32, tick: u32, upto: u32) -> End {
     let at = channel::place(seed, 0);
-    let mut q = e;
-    if seed / 8388608 % 8 == 0 {
-        q = sweeps(e, tick);
-    }
+    let q = if seed / 8388608 % 8 == 0 {
+        sweeps(e, tick)
+    } else {
+        e
+    };
     if seed / 1048576 % 2 == 0 {
         return acknowledges(q, channel, at, tick);
     }

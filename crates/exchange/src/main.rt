@@ -15,6 +15,9 @@ const BLOCKS: u32 = 20000;
 // How many ticks they have for it.
 const STEPS: u32 = 1000000;
 
+// The tick at which they begin, so that ticks wrap on the way.
+const FIRST_TICK: u32 = 4294940000;
+
 // A word and a count.
 fn count(rt: &impl Print, word: &[u8], n: u32) -> io::Result<()> {
     showing::number(rt, word, n as u64)
@@ -51,18 +54,12 @@ fn done(e: End) -> bool {
 
 // Were all blocks handed over once and in order?
 fn all(e: End) -> bool {
-    if e.handed != BLOCKS {
-        return false;
-    }
-    e.wrong == 0
+    e.handed == BLOCKS && e.wrong == 0
 }
 
 // Have both ends been handed everything?
 fn finished(here: End, there: End) -> bool {
-    if done(here) {
-        return done(there);
-    }
-    false
+    done(here) && done(there)
 }
 
 // What both ends show.
@@ -71,10 +68,8 @@ fn report(rt: &impl Print, steps: u32, here: End, there: End) -> io::Result<()> 
     rt.write_all(b"\n")?;
     shown(rt, b"here:", here)?;
     shown(rt, b"there:", there)?;
-    if all(here) {
-        if all(there) {
-            rt.write_all(b"every block was handed over once and in order\n")?;
-        }
+    if all(here) && all(there) {
+        rt.write_all(b"every block was handed over once and in order\n")?;
     }
     Ok(())
 }
@@ -82,19 +77,20 @@ fn report(rt: &impl Print, steps: u32, here: End, there: End) -> io::Result<()> 
 fn main(rt: HostRuntime) -> io::Result<()> {
     let mut here = ends::opened(60000, 65000);
     let mut there = ends::opened(60000, 65000);
-    let mut herestore = [0u8; 39200];
-    let mut heresent = [0u8; 39200];
-    let mut therestore = [0u8; 39200];
-    let mut theresent = [0u8; 39200];
-    let mut forth = [0u8; 512];
-    let mut back = [0u8; 512];
+    let mut herestore = [0u8; window::STORE];
+    let mut heresent = [0u8; window::STORE];
+    let mut therestore = [0u8; window::STORE];
+    let mut theresent = [0u8; window::STORE];
+    let mut forth = [0u8; channel::SIZE];
+    let mut back = [0u8; channel::SIZE];
     let mut seed: u32 = channel::next(1);
-    let mut tick: u32 = 4294940000;
-    let mut step: u32 = 0;
-    while step < STEPS {
+    let mut steps = STEPS;
+    for step in 0..STEPS {
         if finished(here, there) {
+            steps = step;
             break;
         }
+        let tick = FIRST_TICK.wrapping_add(step);
         here = ends::acts(
             here,
             &mut herestore,
@@ -117,8 +113,6 @@ fn main(rt: HostRuntime) -> io::Result<()> {
             BLOCKS,
         );
         seed = channel::after(seed);
-        tick = std::num::wrapping_add_u32(tick, 1);
-        step += 1;
     }
-    report(&rt, step, here, there)
+    report(&rt, steps, here, there)
 }

@@ -2,82 +2,62 @@
 #![tactic(auto)]
 
 ghost use Rattle.std.specs.Prelude.{◌≡◌, false, ◌+◌, ◌-◌, ◌^◌, ◌≤◌, length, leb};
+ghost use Rattle.common.specs.Answer.{answered_of};
 ghost use Rattle.common.specs.Order.{first};
 ghost use Rattle.wire.specs.Flags.{ack_in, data_in, vector_in, both};
 ghost use Rattle.wire.specs.Layout.{sized};
 ghost use Rattle.wire.specs.Write.{ack_wide, vector_wide, packet_bytes, value_tests};
 
+use common::Refusal;
 use wire::{Ack, Values, Vector, bits};
 
 // Is the ACK payload flagged, and is one of its values wider than its field, or its count not its additions' number?
 fn ack_wide(flag: bool, ack: Ack, n: usize) -> bool
     ensures { result ≡ both flag (ack_wide ack n) }
 {
-    if flag {
-        if 16777216 <= ack.time {
-            return true;
-        }
-        if 16 <= ack.count {
-            return true;
-        }
-        if 16 <= ack.scale {
-            return true;
-        }
-        return ack.count as usize != n;
-    }
-    false
+    flag && (16777216 <= ack.time || 16 <= ack.count || 16 <= ack.scale || ack.count as usize != n)
 }
 
 // Is the ACKVEC payload flagged, and is one of its values wider than its field, or its size not its bytes' number?
 fn vector_wide(flag: bool, vector: Vector, n: usize) -> bool
     ensures { result ≡ both flag (vector_wide vector n) }
 {
-    if flag {
-        if 128 <= vector.size {
-            return true;
-        }
-        if stamp_wide(vector.timed, vector.time) {
-            return true;
-        }
-        return vector.size as usize != n;
-    }
-    false
+    flag && (128 <= vector.size
+        || stamp_wide(vector.timed, vector.time)
+        || vector.size as usize != n)
 }
 
 // Is a time stamp present, and wider than its field?
 fn stamp_wide(timed: bool, time: u32) -> bool
     ensures { result ≡ both timed (leb (2 ^ 24) time) }
 {
-    if timed {
-        return 16777216 <= time;
-    }
-    false
+    timed && 16777216 <= time
 }
 
-// The first refusal of some values with so many additions and vector bytes: 4, 5 or 10; 0 where there is none.
-pub fn judge_values(v: Values, additions: usize, vector: usize) -> u8
-    ensures { result ≡ first (value_tests v additions vector) }
+// The first refusal of some values with so many additions and vector bytes: 4, 5 or 10.
+pub fn judge_values(v: Values, additions: usize, vector: usize) -> Result<(), Refusal>
+    ensures { result ≡ answered_of (first (value_tests v additions vector)) }
 {
     if bits::has_others(v.flags) {
-        return 4;
+        return Err(Refusal::OtherFlag);
     }
     let isack = bits::flag(v.flags, wire::ACK);
     let isvector = bits::flag(v.flags, wire::ACKVEC);
     if bits::both_flagged(isack, isvector) {
-        return 5;
+        return Err(Refusal::TwoAcknowledgements);
     }
     if 16 <= v.logwindow {
-        return 10;
+        return Err(Refusal::TooWide);
     }
     let ack = v.ack;
     if ack_wide(isack, ack, additions) {
-        return 10;
+        return Err(Refusal::TooWide);
     }
     let coded = v.vector;
     if vector_wide(isvector, coded, vector) {
-        return 10;
+        return Err(Refusal::TooWide);
     }
-    0
+    Ok(())
 }
 
 // The size of a payload with a fixed part and n bytes of its own, where it is flagged.
@@ -85,10 +65,7 @@ fn size_with(flag: bool, fixed: usize, n: usize) -> usize
     requires { (fixed ≤ 10) × (sized flag n ≤ 1232) }
     ensures { (result ≡ sized flag (fixed + n)) × (result ≤ fixed + 1232) }
 {
-    if flag {
-        return fixed + n;
-    }
-    0
+    if flag { fixed + n } else { 0 }
 }
 
 // How many bytes the packet of these values has.
@@ -116,8 +93,5 @@ pub fn datagram_size(k: usize) -> usize
     requires { k ≤ 5000 }
     ensures { result ≡ 1 + k + (7 - k) }
 {
-    if k < 7 {
-        return 8;
-    }
-    1 + k
+    1 + k.max(7)
 }

@@ -3,79 +3,65 @@ use Prim.Native.Nat.{ℕ}
 use mathlib.Core.Bool.{Bool, true, false}
 use mathlib.Core.Option.{Option, none, some}
 use mathlib.Core.Path.{◌≡◌, refl, sym, ◌∙◌, ap}
-use lib.Dec.{ltb}
+use Rattle.std.specs.Prelude.{Option as Found, Some, None}
+use Rattle.numbers.specs.declared.DataNumber.{DataNumber}
 use Rattle.numbers.specs.declared.Widened.{Widened}
-use Rattle.numbers.specs.declared.Widened.TheVariants.{At as AtNumber, Below, Unclear}
-use Rattle.numbers.specs.declared.WidenedData.{WidenedData}
-use Rattle.numbers.specs.declared.WidenedData.TheVariants.{At as DataAt}
-use Rattle.numbers.specs.declared.WidenedChannel.{WidenedChannel}
-use Rattle.numbers.specs.declared.WidenedChannel.TheVariants.{At as ChannelAt}
-use Rattle.numbers.specs.Widen.{widen_of, out_of, data_of, channel_of, from_data, from_channel, from_data_lem, from_channel_lem}
-use Rattle.judging.specs.declared.FoundData.{FoundData}
-use Rattle.judging.specs.declared.FoundData.TheVariants.{Out, At}
-use Rattle.judging.specs.declared.FoundChannel.TheVariants.{Out as ChannelOut, At as FoundAt}
+use Rattle.numbers.specs.declared.Widened.TheVariants.{At, Below, Unclear}
+use Rattle.numbers.specs.Widen.{widen_of, widened_as, widened_back, out_of, data_of}
 use Rattle.receiver.specs.Receive.{in_place, on_some, if_flagged}
-use Rattle.judging.specs.Judge.{found_data, found_channel, waived_at}
+use Rattle.judging.specs.Judge.{found_as, waived_at}
 
 -- THE NUMBER THAT A FIELD STANDS FOR
 
-place_out : (first : ℕ) (x : Widened) → out_of first x ≡ true → in_place first x ≡ none
-place_out first (AtNumber n) h = rw h refl
+place_out : (first : ℕ) (x : Widened ℕ) → out_of first x ≡ true → in_place first x ≡ none
+place_out first (At n) h = rw h refl
 place_out first (Below m) h = refl
 place_out first Unclear h = refl
 
-place_at : (first : ℕ) (x : Widened) (n : ℕ) → out_of first x ≡ false → x ≡ AtNumber n → in_place first x ≡ some n
-place_at first x n h e = let g : ltb n first ≡ false = ap (out_of first) (sym e) ∙ h in rw (e, g) refl
-
-module _ (base first f : ℕ) (x : WidenedData) (b : Bool) (wide : x ≡ data_of (widen_of base f)) (out : b ≡ out_of first (from_data x)) where
-  data_is_lem : from_data x ≡ widen_of base f
-  data_is_lem = ap from_data wide ∙ from_data_lem (widen_of base f)
-
-  data_judged : (t : Bool) → b ≡ t → out_of first (widen_of base f) ≡ t
-  data_judged t h = ap (out_of first) (sym data_is_lem) ∙ sym out ∙ h
-
-  pub data_out : b ≡ true → Out ≡ found_data (in_place first (widen_of base f))
-  unfolding found_data
-  data_out h = ap found_data (sym (place_out first (widen_of base f) (data_judged true h)))
-
-  pub data_at : (n : ℕ) → b ≡ false → x ≡ DataAt (record { 0 = n }) → At (record { 0 = n }) ≡ found_data (in_place first (widen_of base f))
-  unfolding found_data
-  data_at n h e = ap found_data (sym (place_at first _ n (data_judged false h) (sym data_is_lem ∙ ap from_data e)))
-
+-- a kind of number, and what a field widens to as one of it
+module _ {N : Type 0} (of : ℕ → N) (first reference f : ℕ) (x : Widened N) (wide : x ≡ widened_as of (widen_of reference f)) where
   -- a case in which no number stands
-  pub data_no_number : (y : WidenedData) → x ≡ y → none ≡ in_place first (from_data y) → Out ≡ found_data (in_place first (widen_of base f))
-  unfolding found_data
-  data_no_number y e h = ap found_data (h ∙ ap (in_place first) (ap from_data (sym e) ∙ data_is_lem))
+  pub found_none : ((n : N) → x ≡ At n → ⊥) → None ≡ found_as of (in_place first (widen_of reference f))
+  unfolding found_as
+  found_none never = go (widen_of reference f) wide
+    where
+      go : (a : Widened ℕ) → x ≡ widened_as of a → None ≡ found_as of (in_place first a)
+      go (At m) e = absurd (never (of m) e)
+      go (Below m) e = refl
+      go Unclear e = refl
 
-module _ (due first f : ℕ) (x : WidenedChannel) (b : Bool) (wide : x ≡ channel_of (widen_of due f)) (out : b ≡ out_of first (from_channel x)) where
-  channel_is_lem : from_channel x ≡ widen_of due f
-  channel_is_lem = ap from_channel wide ∙ from_channel_lem (widen_of due f)
+  module _ (full : N → ℕ) (back : (n : ℕ) → full (of n) ≡ n) (b : Bool) (out : b ≡ out_of first (widened_as full x)) where
+    judged : out_of first (widen_of reference f) ≡ b
+    judged = ap (out_of first) (sym (ap (widened_as full) wide ∙ widened_back full of back (widen_of reference f))) ∙ sym out
 
-  channel_judged : (t : Bool) → b ≡ t → out_of first (widen_of due f) ≡ t
-  channel_judged t h = ap (out_of first) (sym channel_is_lem) ∙ sym out ∙ h
+    pub found_out : b ≡ true → None ≡ found_as of (in_place first (widen_of reference f))
+    unfolding found_as
+    found_out h = ap (found_as of) (sym (place_out first (widen_of reference f) (judged ∙ h)))
 
-  pub channel_out : b ≡ true → ChannelOut ≡ found_channel (in_place first (widen_of due f))
-  unfolding found_channel
-  channel_out h = ap found_channel (sym (place_out first (widen_of due f) (channel_judged true h)))
+    pub found_at : (n : N) → b ≡ false → x ≡ At n → Some n ≡ found_as of (in_place first (widen_of reference f))
+    unfolding found_as
+    found_at n h e = go (widen_of reference f) (sym e ∙ wide) (judged ∙ h)
+      where
+        number_or : N → Widened N → N
+        number_or d (At m) = m
+        number_or d (Below m) = d
+        number_or d Unclear = d
 
-  pub channel_at : (n : ℕ) → b ≡ false → x ≡ ChannelAt (record { 0 = n }) → FoundAt (record { 0 = n }) ≡ found_channel (in_place first (widen_of due f))
-  unfolding found_channel
-  channel_at n h e = ap found_channel (sym (place_at first _ n (channel_judged false h) (sym channel_is_lem ∙ ap from_channel e)))
-
-  pub channel_no_number : (y : WidenedChannel) → x ≡ y → none ≡ in_place first (from_channel y) → ChannelOut ≡ found_channel (in_place first (widen_of due f))
-  unfolding found_channel
-  channel_no_number y e h = ap found_channel (h ∙ ap (in_place first) (ap from_channel (sym e) ∙ channel_is_lem))
+        go : (a : Widened ℕ) → At n ≡ widened_as of a → out_of first a ≡ false → Some n ≡ found_as of (in_place first a)
+        go (At m) q t = rw t (ap Some (ap (number_or n) q))
+        go (Below m) q t = cc
+        go Unclear q t = cc
 
 -- THE NUMBER BELOW WHICH ALL IS WAIVED
 
-pub aoa_given : (flag : Bool) (v : Option ℕ) (x : FoundData) → flag ≡ true → x ≡ found_data v → x ≡ waived_at (if_flagged flag v)
-unfolding if_flagged found_data waived_at on_some
+pub aoa_given : (flag : Bool) (v : Option ℕ) (x : Found DataNumber) → flag ≡ true → x ≡ found_as data_of v → x ≡ waived_at (if_flagged flag v)
+unfolding if_flagged found_as waived_at on_some
 aoa_given flag v x t e = rw t (e ∙ go v)
   where
-    go : (a : Option ℕ) → found_data a ≡ waived_at (on_some a (λ n. some (some n)))
+    go : (a : Option ℕ) → found_as data_of a ≡ waived_at (on_some a (λ n. some (some n)))
     go none = refl
     go (some n) = refl
 
-pub aoa_absent : (flag : Bool) (v : Option ℕ) → flag ≡ false → At (record { 0 = 0 }) ≡ waived_at (if_flagged flag v)
+pub aoa_absent : (flag : Bool) (v : Option ℕ) → flag ≡ false → Some (data_of 0) ≡ waived_at (if_flagged flag v)
 unfolding if_flagged waived_at
 aoa_absent flag v t = rw t refl

@@ -1,20 +1,21 @@
 -- Judging and then applying is what the definitions of Receive say: the answer's number, and the state that is left.
-use Rattle.std.specs.Prelude.{ℕ, Bool, true, false, cond, List, [], ◌∷◌, ◌≡◌, refl, eqb, ltb}
+use Rattle.std.specs.Prelude.{ℕ, Bool, true, false, cond, List, [], ◌≡◌, refl, eqb, Ok, Err}
 use Rattle.std.proofs.Math.Option.{Option, none, some}
-use Rattle.std.proofs.Common.{sym, ◌∙◌, ap}
-use Rattle.common.specs.Order.{Test, test, first}
-use Rattle.numbers.specs.Full.{highest}
+use Rattle.std.proofs.Common.{sym, ◌∙◌, ap, eqb-true, eq-eqb}
+use Rattle.common.specs.Facts.{clash}
+use Rattle.common.specs.Answer.{number_of, refusal_of, settled, is_answer, no_back}
 use Rattle.wire.specs.declared.Packet.{Packet as WirePacket}
 use Rattle.wire.specs.declared.Values.{Values}
 use Rattle.wire.specs.Flags.{data_in, aoa_in}
 use Rattle.wire.specs.Same.{body_in}
 use Rattle.receiver.specs.declared.Receiver.{Receiver}
 use Rattle.judging.specs.declared.Arrived.{Arrived}
-use Rattle.judging.specs.declared.Arrived.TheVariants.{Refused, Waiver, Content}
+use Rattle.judging.specs.declared.Arrived.TheVariants.{Waiver, Content}
 use Rattle.receiver.specs.Record.{State}
-use Rattle.receiver.specs.Packet.{Packet, Arrival, nothing, waiver, content, waived, number_tests, numbers_answer, packet_answer, arrival_answer, receiver_after, waiver_after, store_after, packet_of, arrival_of}
+use Rattle.receiver.specs.Packet.{Packet, Arrival, nothing, waiver, content, waived, packet_answer, arrival_answer, receiver_after, waiver_after, store_after, packet_of, arrival_of}
 use Rattle.receiver.specs.Receive.{on_some, data_number, channel_number, aoa_number, packet_from, waiver_from, arrival_from, answer_for, state_for, values_answer, values_of}
-use Rattle.judging.specs.Judge.{number_of, numbers_in, judged_for, judged_of, left_by}
+use Rattle.receiver.specs.Known.{values_known}
+use Rattle.judging.specs.Judge.{numbers_in, judged_for, judged_of, left_by}
 
 -- what arrives, by its parts: data or not, AckOfAcks or not, and the numbers found
 unfoldable arrives : Bool → Option (Option ℕ) → Option ℕ → Option ℕ → Option ℕ → Bool → List ℕ → Option Arrival
@@ -39,28 +40,17 @@ same_judged w r true (some a) (some n) none v flag block = refl
 same_judged w r true (some a) (some n) (some c) v flag block = refl
 same_judged w r false a n c v flag block = refl
 
--- every refusal is 7
-abbrev Sevens : List Test → Type 0
-Sevens [] = ◌≡◌ {A = ℕ} 0 0
-Sevens (t ∷ ts) = (t.no ≡ 7) × Sevens ts
-
-sevens : (ts : List Test) (a : Arrived) → Sevens ts → number_of a ≡ 0 → number_of (cond (eqb (first ts) 0) a Refused) ≡ first ts
-unfolding first
-sevens [] a h z = z
-sevens (t ∷ ts) a h z = go t.holds t.no h.0 (sevens ts a h.1 z)
+-- every answer is 0 or a refusal's number, so what was judged has the answer's number
+number_settled : (n : ℕ) (a : Arrived) → is_answer n ≡ true → number_of (settled n a) ≡ n
+number_settled n a h = go (eqb n 0) refl
   where
-    go : (b : Bool) (n : ℕ) → n ≡ 7 → number_of (cond (eqb (first ts) 0) a Refused) ≡ first ts
-        → number_of (cond (eqb (cond b n (first ts)) 0) a Refused) ≡ cond b n (first ts)
-    go true n e q = rw e refl
-    go false n e q = q
+    go : (t : Bool) → eqb n 0 ≡ t → number_of {A = Arrived} (cond t (Ok a) (Err (refusal_of n))) ≡ n
+    go true e = sym (eqb-true n 0 e)
+    go false e = no_back n h (λ z. clash (eqb n 0) (eq-eqb n 0 z) e)
 
-judged_number : (w : ℕ) (r : Receiver) (o : Option Arrival) → number_of (judged_for w r o) ≡ answer_for w r o
-unfolding arrival_answer numbers_answer
-judged_number w r none = refl
-judged_number w r (some nothing) = refl
-judged_number w r (some (waiver v)) = sevens (test (ltb highest v) 7 ∷ []) (Waiver (record { 0 = v })) (refl, refl) refl
-judged_number w r (some (content p)) =
-    sevens (number_tests w r.base.0 r.due.0 (waived p.aoa) p.number p.channel) (numbers_in (content p)) (refl, (refl, (refl, (refl, (refl, refl))))) refl
+judged_number : (w : ℕ) (r : Receiver) (o : Option Arrival) → is_answer (answer_for w r o) ≡ true → number_of (judged_for w r o) ≡ answer_for w r o
+judged_number w r none h = refl
+judged_number w r (some a) h = number_settled (arrival_answer w r a) (numbers_in a) h
 
 pub judged_answer : (w : ℕ) (r : Receiver) (d : List ℕ) (p : WirePacket) → number_of (judged_of w r p.values) ≡ values_answer w r d p
 unfolding judged_of values_answer
@@ -69,7 +59,7 @@ judged_answer w r d p =
     (ap (judged_for w r) (arrives_is r p.values [])
     ∙ same_judged w r _ _ _ _ _ _ (body_in d p)
     ∙ ap (judged_for w r) (sym (arrives_is r p.values (body_in d p))))
-    ∙ judged_number w r (arrival_from r p.values (body_in d p))
+    ∙ judged_number w r (arrival_from r p.values (body_in d p)) (values_known w r d p)
 
 -- an accepted packet leaves what its numbers leave
 content_left : (w : ℕ) (s : State) (a : Option ℕ) (n c : ℕ) (block : List ℕ)
@@ -81,7 +71,9 @@ content_left w s a n c block = go (eqb (packet_answer w s.receiver (record { num
     p : Packet
     p = record { number = n; channel = c; aoa = a; block = block }
 
-    go : (t : Bool) → left_by w s block (cond t (Content (record { 0 = n }) (record { 0 = c }) (record { 0 = waived a })) Refused)
+    go : (t : Bool)
+        → left_by w s block (cond t (Ok (Content (record { 0 = n }) (record { 0 = c }) (record { 0 = waived a })))
+        (Err (refusal_of (packet_answer w s.receiver p))))
         ≡ cond t (record { receiver = receiver_after w s.receiver p; store = store_after w s p }) s
     go true = refl
     go false = refl
@@ -91,7 +83,8 @@ waiver_left : (w : ℕ) (s : State) (v : ℕ) (block : List ℕ)
 unfolding arrival_of left_by
 waiver_left w s v block = go (eqb (arrival_answer w s.receiver (waiver v)) 0)
   where
-    go : (t : Bool) → left_by w s block (cond t (Waiver (record { 0 = v })) Refused) ≡ cond t (record { receiver = waiver_after w s.receiver v; store = s.store }) s
+    go : (t : Bool) → left_by w s block (cond t (Ok (Waiver (record { 0 = v }))) (Err (refusal_of (arrival_answer w s.receiver (waiver v)))))
+        ≡ cond t (record { receiver = waiver_after w s.receiver v; store = s.store }) s
     go true = refl
     go false = refl
 

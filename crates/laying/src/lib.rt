@@ -27,15 +27,17 @@ pub fn put_three(out: &mut [u8], at: usize, n: u32) -> usize
     common::lay_byte(out, high, (n / 65536) as u8)
 }
 
-// Lays a byte where it is flagged.
+// Lays a byte where it is flagged. This and the next are one `if` each over a call that differs; a function over both would take a closure that
+// writes, with its contract.
 pub fn put_byte_if(out: &mut [u8], at: usize, flag: bool, b: u8) -> usize
     requires { at + length (given flag (b ∷ [])) ≤ length out.old }
     ensures { Laid out.old at (given flag (b ∷ [])) out.new result }
 {
     if flag {
-        return common::lay_byte(out, at, b);
+        common::lay_byte(out, at, b)
+    } else {
+        at
     }
-    at
 }
 
 // Lays a 16-bit number where it is flagged.
@@ -43,10 +45,7 @@ pub fn put_word_if(out: &mut [u8], at: usize, flag: bool, n: u16) -> usize
     requires { at + length (given flag (word_bytes n)) ≤ length out.old }
     ensures { Laid out.old at (given flag (word_bytes n)) out.new result }
 {
-    if flag {
-        return put_word(out, at, n);
-    }
-    at
+    if flag { put_word(out, at, n) } else { at }
 }
 
 // Lays the ACK payload where it is flagged.
@@ -60,9 +59,10 @@ pub fn put_ack(out: &mut [u8], at: usize, flag: bool, ack: Ack, additions: &[u8]
         let gap = put_three(out, time, ack.time);
         let halves = common::lay_byte(out, gap, ack.gap);
         let rest = common::lay_byte(out, halves, bits::halves(ack.count, ack.scale));
-        return common::lay(out, rest, additions);
+        common::lay(out, rest, additions)
+    } else {
+        at
     }
-    at
 }
 
 // Lays the DelayAckInfo payload where it is flagged.
@@ -72,9 +72,10 @@ pub fn put_delay(out: &mut [u8], at: usize, flag: bool, delay: Delay) -> usize
 {
     if flag {
         let timeout = common::lay_byte(out, at, delay.most);
-        return put_word(out, timeout, delay.timeout);
+        put_word(out, timeout, delay.timeout)
+    } else {
+        at
     }
-    at
 }
 
 // Lays a vector's time stamp and gap where they are present.
@@ -85,9 +86,10 @@ pub fn put_stamp(out: &mut [u8], at: usize, vector: Vector) -> usize
 {
     if vector.timed {
         let gap = put_three(out, at, vector.time);
-        return common::lay_byte(out, gap, vector.gap);
+        common::lay_byte(out, gap, vector.gap)
+    } else {
+        at
     }
-    at
 }
 
 // Lays the ACKVEC payload where it is flagged.
@@ -100,9 +102,10 @@ pub fn put_vector(out: &mut [u8], at: usize, flag: bool, vector: Vector, coded: 
         let size = put_word(out, at, vector.base);
         let stamp = common::lay_byte(out, size, bits::size_byte(vector.size, vector.timed));
         let rest = put_stamp(out, stamp, vector);
-        return common::lay(out, rest, coded);
+        common::lay(out, rest, coded)
+    } else {
+        at
     }
-    at
 }
 
 // Lays the DataBody payload where it is flagged.
@@ -112,7 +115,8 @@ pub fn put_body(out: &mut [u8], at: usize, flag: bool, channel: u16, body: &[u8]
 {
     if flag {
         let rest = put_word(out, at, channel);
-        return common::lay(out, rest, body);
+        common::lay(out, rest, body)
+    } else {
+        at
     }
-    at
 }

@@ -1,5 +1,6 @@
 -- Worked examples of listings: the document's own, a refusal, a dummy, and the payloads that the document's example lacks.
 use Rattle.std.specs.Prelude.{List, [], ◌∷◌, refl}
+use Rattle.common.specs.Answer.{refusal_of}
 use Rattle.common.specs.Order.{first}
 use Rattle.text.specs.Ascii.{ascii}
 use Rattle.text.specs.Decimal.{digits_by, decimal_of}
@@ -25,5 +26,5 @@ cases =
     ∷ []
 
 pub cases_right : Right cases
-unfolding cases listing_of lines_for packet_lines decimal_of digits_by read_of read_packet first swapped dropped_by end_of six_of outside ack_end overhead_end delay_end aoa_end number_end vector_end channel_end values_of packet_of
+unfolding cases listing_of lines_for packet_lines decimal_of digits_by read_of read_packet refusal_of first swapped dropped_by end_of six_of outside ack_end overhead_end delay_end aoa_end number_end vector_end channel_end values_of packet_of
 cases_right = (refl, (refl, (refl, (refl, (refl, tt)))))

@@ -1,17 +1,15 @@
 -- The lines of one datagram, a packet's or these: "A refusal is one line `answer=N`; a dummy two, `answer=0` and `type=8`." Each line ends with a newline.
-use Rattle.std.specs.Prelude.{ℕ, List, ◌++◌}
+use Rattle.std.specs.Prelude.{ℕ, List, ◌++◌, Err, Ok, Some, None}
 use Rattle.text.specs.Decimal.{decimal_of}
 use Rattle.text.specs.Lines.{line}
-use Rattle.wire.specs.declared.Reading.{Reading}
-use Rattle.wire.specs.declared.Reading.TheVariants.{Refused, Dummy, Read}
-use Rattle.wire.specs.Read.{number_of, read_of}
-use Rattle.common.specs.Answer.{room_answer}
+use Rattle.wire.specs.Read.{read_of, Reading}
+use Rattle.common.specs.Answer.{no_of, room_answer}
 use Rattle.listing_packet.specs.Lines.{packet_lines}
 
 unfoldable pub lines_for : Reading → List ℕ
-lines_for (Refused n) = line "answer" (decimal_of (number_of (Refused n)))
-lines_for Dummy = line "answer" (decimal_of (number_of Dummy)) ++ line "type" (decimal_of 8)
-lines_for (Read p) = packet_lines p
+lines_for (Err r) = line "answer" (decimal_of (no_of r))
+lines_for (Ok None) = line "answer" (decimal_of 0) ++ line "type" (decimal_of 8)
+lines_for (Ok (Some p)) = packet_lines p
 
 -- the listing of a datagram
 unfoldable pub listing_of : List ℕ → List ℕ

@@ -2,7 +2,7 @@
 // past marked places.
 #![tactic(auto)]
 
-ghost use Rattle.std.specs.Prelude.{◌≡◌, ◌+◌, ◌^◌, ◌≤◌, ◌<◌, max};
+ghost use Rattle.std.specs.Prelude.{◌≡◌, ◌+◌, ◌^◌, ◌≤◌, ◌<◌};
 ghost use Rattle.numbers.specs.Full.{highest, past_highest};
 ghost use Rattle.window.specs.Window.{lifted, slid};
 ghost use Rattle.receiver.specs.Record.{is_marked};
@@ -20,35 +20,23 @@ pub struct Marks {
     pub places: [u8; 32],
 }
 
-// The larger of two numbers.
-pub fn larger(a: u64, b: u64) -> u64
-    ensures { result ≡ max a b }
-{
-    if a < b {
-        return b;
-    }
-    a
-}
-
 // All below v is waived.
 fn lift(m: Marks, v: DataNumber) -> Marks
     requires { m.base.0 ≤ past_highest }
     ensures { (win_of result ≡ lifted 0 32 v.0 (win_of m)) × (result.base.0 ≤ m.base.0 + 32 + v.0) }
 {
     let mut next = m;
-    let mut k: u64 = 0;
-    while k < DataNumber::WINDOW {
+    for _ in 0..DataNumber::WINDOW {
         let base = next.base;
         if v.0 <= base.0 {
             return next;
         }
-        let at = window::data_place(base);
+        let at = window::place(base);
         next.places[at] = 0;
         let after = DataNumber(base.0 + 1);
         next.base = after;
-        k += 1;
     }
-    let raised = DataNumber(larger(next.base.0, v.0));
+    let raised = DataNumber(next.base.0.max(v.0));
     next.base = raised;
     next
 }
@@ -60,7 +48,7 @@ fn mark(m: Marks, n: DataNumber) -> Marks
     if n.0 < m.base.0 {
         return m;
     }
-    let at = window::data_place(n);
+    let at = window::place(n);
     let mut next = m;
     next.places[at] = 1;
     next
@@ -72,17 +60,15 @@ fn advance(m: Marks) -> Marks
     ensures { win_of result ≡ slid 0 32 is_marked 32 (win_of m) }
 {
     let mut next = m;
-    let mut k: u64 = 0;
-    while k < DataNumber::WINDOW {
+    for _ in 0..DataNumber::WINDOW {
         let base = next.base;
-        let at = window::data_place(base);
+        let at = window::place(base);
         if next.places[at] != 1 {
             return next;
         }
         next.places[at] = 0;
         let after = DataNumber(base.0 + 1);
         next.base = after;
-        k += 1;
     }
     next
 }

@@ -25,10 +25,6 @@ module _ (r f top back : ℕ) (et : top ≡ r + 32767) (eb : back ≡ (top + 655
       rw (ne_eqb ((r + 32768) % 65536) f clear, lt-leb (back_of r f) (r + 32767) lt, et, b) refl
 
 -- what a wrapping difference ensures fixes it
-pub since_only : (p now sent : ℕ) → p < 4294967296 → now < 4294967296 → sent < 4294967296
-    → (p + sent) % 4294967296 ≡ now → p ≡ since_of now sent
-since_only p now sent hp hn hs e = omega arith
-
 pub age_old : (p now sent : ℕ) → p ≡ since_of now sent → 2147483648 ≤ p → 0 ≡ age_of now sent
 unfolding age_of
 age_old p now sent e h = let g : 2147483648 ≤ since_of now sent = omega arith in rw (le-ltb (since_of now sent) 2147483648 g) refl

@@ -15,7 +15,7 @@ abbrev pub NearBelow : ℕ → ℕ → ℕ → Type 0
 NearBelow r f m = (1 ≤ m) × (r + m ≤ 32767) × (f + m ≡ 65536)
 
 -- an answer is right if it is such a number, or says that there is none
-abbrev pub Near : ℕ → ℕ → Widened → Type 0
+abbrev pub Near : ℕ → ℕ → Widened ℕ → Type 0
 Near r f (At n) = NearAt r f n
 Near r f (Below m) = NearBelow r f m
 Near r f Unclear = ((n : ℕ) → NearAt r f n → ⊥) × ((m : ℕ) → NearBelow r f m → ⊥)
@@ -38,7 +38,7 @@ widen_near r f h = go (half_away r f) (nat_le (back_of r f) (r + 32767)) refl re
         (omega arith, omega arith, omega arith)
 
 -- And to no other.
-pub near_once : (r f : ℕ) (v w : Widened) → f < 65536 → Near r f v → Near r f w → v ≡ w
+pub near_once : (r f : ℕ) (v w : Widened ℕ) → f < 65536 → Near r f v → Near r f w → v ≡ w
 near_once r f (At m) (At n) h p q = ap At (omega arith)
 near_once r f (At m) (Below n) h p q = absurd (omega arith)
 near_once r f (At m) Unclear h p q = absurd (q.0 m p)
@@ -50,7 +50,7 @@ near_once r f Unclear (Below n) h p q = absurd (p.1 n q)
 near_once r f Unclear Unclear h p q = refl
 
 -- So whatever is near is the answer.
-pub widen_only : (r f : ℕ) (w : Widened) → f < 65536 → Near r f w → widen_of r f ≡ w
+pub widen_only : (r f : ℕ) (w : Widened ℕ) → f < 65536 → Near r f w → widen_of r f ≡ w
 widen_only r f w h p = near_once r f (widen_of r f) w h (widen_near r f h) p
 
 -- It is unclear exactly if the field is that of r + 32,768, which is that of r − 32,768 too.

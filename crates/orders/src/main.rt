@@ -4,7 +4,6 @@
 
 mod packets;
 
-use common::Written;
 use receiver::Receiver;
 use sender::Sender;
 use std::io;
@@ -20,7 +19,7 @@ struct Run {
 
 // One more.
 fn more(n: u32) -> u32 {
-    std::num::wrapping_add_u32(n, 1)
+    n.wrapping_add(1)
 }
 
 // The first n bytes arrive.
@@ -34,11 +33,11 @@ fn arrives(r: Run, store: &mut [u8], datagram: &[u8], n: usize) -> Run {
     let mut next = r;
     next.sender = s;
     next.receiver = q;
-    if got.answer == 0 {
+    if got.answer.is_ok() {
         next.accepted = more(r.accepted);
-        return next;
+    } else {
+        next.refused = more(r.refused);
     }
-    next.refused = more(r.refused);
     next
 }
 
@@ -56,8 +55,7 @@ fn takes(rt: &impl Print, r: Run, store: &[u8]) -> io::Result<Run> {
     let q = got.receiver;
     let mut next = r;
     next.receiver = q;
-    let w = got.written;
-    if let Written::Wrote(n) = w {
+    if let Ok(n) = got.written {
         rt.write_all(b" ")?;
         showing::bytes(rt, &block, n)?;
     }

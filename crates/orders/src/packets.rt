@@ -1,7 +1,6 @@
 // The set: 32 packets. The k-th has the k-th number and carries the k-th block, but for two: packet 9 has number 10, so that number 9 is
 // missing, and packet 20 carries block 3, so that block 20 is missing. Every fifth has an AckOfAcks.
-use common::Written;
-use wire::{Ack, Delay, Values, Vector};
+use wire::Values;
 
 // The first numbers of the endpoint.
 pub const FIRSTDATA: u32 = 65520;
@@ -15,34 +14,22 @@ pub(crate) fn next(k: u32, factor: u32) -> u32 {
 
 // Is i + 1 a multiple of every?
 pub(crate) fn ends(every: u32, i: u32) -> bool {
-    if every == 0 {
-        return false;
-    }
-    i % every == every - 1
+    every != 0 && i % every == every - 1
 }
 
 // The block that packet k carries.
 fn block(k: u32) -> u32 {
-    if k == 20 {
-        return 3;
-    }
-    k
+    if k == 20 { 3 } else { k }
 }
 
 // The number of packet k.
 fn data(k: u32) -> u32 {
-    if k == 9 {
-        return 10;
-    }
-    k
+    if k == 9 { 10 } else { k }
 }
 
 // The flags of packet k.
 fn flags(k: u32) -> u16 {
-    if k % 5 == 0 {
-        return 0x014;
-    }
-    0x004
+    if k % 5 == 0 { 0x014 } else { 0x004 }
 }
 
 // The field of a number k places after a first one.
@@ -55,36 +42,10 @@ fn values(k: u32) -> Values {
     Values {
         flags: flags(k),
         logwindow: 5,
-        ack: Ack {
-            number: 0,
-            time: 0,
-            gap: 0,
-            count: 0,
-            scale: 0,
-        },
-        overhead: 0,
-        delay: Delay {
-            most: 0,
-            timeout: 0,
-        },
         aoa: field(FIRSTDATA, k / 4),
         number: field(FIRSTDATA, data(k)),
-        vector: Vector {
-            base: 0,
-            size: 0,
-            timed: false,
-            time: 0,
-            gap: 0,
-        },
         channel: field(FIRSTCHANNEL, block(k)),
-    }
-}
-
-// How many bytes were written.
-fn count(w: Written) -> usize {
-    match w {
-        Written::Refused(_) => 0,
-        Written::Wrote(n) => n,
+        ..Values::default()
     }
 }
 
@@ -108,12 +69,12 @@ fn fills(out: &mut [u8], k: u32) -> usize {
     33
 }
 
-// Writes packet k, and answers its length.
+// Writes packet k, and answers its length; 0 where it is refused.
 pub(crate) fn make(datagram: &mut [u8], k: u32) -> usize {
     let mut bytes = [0u8; 40];
     let n = fills(&mut bytes, k);
     if 40 < n {
         return 0;
     }
-    count(writer::write(values(k), b"", b"", &bytes[..n], datagram))
+    writer::write(values(k), b"", b"", &bytes[..n], datagram).unwrap_or(0)
 }

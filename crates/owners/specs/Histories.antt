@@ -2,9 +2,9 @@
 -- last call on it left them; an opening of T's comes with new stores for the number that is given.
 use Rattle.std.specs.Prelude.{ℕ, Bool, List, [], ◌∷◌, ◌≡◌, get_or, set, eqb}
 use Rattle.session.specs.declared.Session.{Session}
-use Rattle.session.specs.declared.Opening.{Opening}
 use Rattle.session.specs.Place.{place_of}
 use Rattle.session.specs.Call.{Stores, no_stores, lent_of, kept_of, Asked, lends_for, Made}
+use Rattle.session.specs.Open.{Opening}
 use Rattle.session.specs.List.{outcome_of, list_of, opening_at, open_list_of}
 use Rattle.owners.specs.View.{Numbered, view}
 use Rattle.owners.specs.Seeing.{Reply, reply_of}

@@ -13,13 +13,11 @@ use Rattle.std.proofs.Math.Dec.{eqb}
 use Rattle.std.proofs.lemmas.Bool.{eqb-false}
 use Rattle.endpoint.specs.Open.{opened_of}
 use Rattle.session.specs.declared.Session.{Session}
-use Rattle.session.specs.declared.Opening.{Opening}
-use Rattle.session.specs.declared.Granted.{Granted}
 use Rattle.session.specs.Place.{blank, places, place_of}
 use Rattle.session.specs.Call.{Stores, lent_of, lends_for}
-use Rattle.session.specs.Open.{opening_of, refused_opening, opened_for}
+use Rattle.session.specs.Open.{Opening, opening_of, refused_opening, opened_for}
 use Rattle.session.specs.List.{lowest_of, opening_at, open_list_of, outcome_of}
-use Rattle.session.specs.Shapes.{granted_by}
+use Rattle.session.specs.Shapes.{Granted, granted_by}
 use Rattle.owners.specs.View.{Numbered, view, seen, hidden, hidden_get, hidden_set, seen_again, view_hidden, view_sees}
 use Rattle.owners.specs.Seeing.{Reply, reply_of, set_same, opening_full, opening_refused, opening_done}
 use Rattle.owners.specs.OwnersAreIsolated.{frame_sees, frame_open_sees, answers_alone, leaves_alone}

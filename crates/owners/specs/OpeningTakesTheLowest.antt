@@ -6,10 +6,9 @@ use Rattle.numbers.specs.Full.{highest_first}
 use Rattle.sender.specs.Record.{shortest_timeout, longest_timeout}
 use Rattle.endpoint.specs.Open.{open_answer, opened_of}
 use Rattle.session.specs.declared.Session.{Session}
-use Rattle.session.specs.declared.Opening.{Opening}
 use Rattle.session.specs.Place.{blank, blank_token, places, place_of, place_answer}
 use Rattle.session.specs.Call.{closes, Made, done_of, made_done}
-use Rattle.session.specs.Open.{opened_for, opening_of}
+use Rattle.session.specs.Open.{Opening, opened_for, opening_of}
 use Rattle.session.specs.List.{list_of, lowest_of, opening_at, open_list_of}
 use Rattle.session.specs.Lowest.{lowest_within, lowest_found, lowest_free}
 use Rattle.owners.specs.Seeing.{by_answer, opening_ways, opening_full, opening_done, opening_refused}

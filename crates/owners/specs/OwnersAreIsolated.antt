@@ -9,10 +9,9 @@ use Rattle.std.specs.Prelude.{ℕ, ◌<◌, List, ◌≡◌, length, get_or, set
 use Rattle.std.proofs.Common.{⊎_elim, sym, ◌∙◌, ap}
 use Rattle.endpoint.specs.Open.{opened_of}
 use Rattle.session.specs.declared.Session.{Session}
-use Rattle.session.specs.declared.Opening.{Opening}
 use Rattle.session.specs.Place.{blank, places, place_of}
 use Rattle.session.specs.Call.{Asked, made_of}
-use Rattle.session.specs.Open.{opening_of, refused_opening}
+use Rattle.session.specs.Open.{Opening, opening_of, refused_opening}
 use Rattle.session.specs.List.{outcome_of, list_of, lowest_of, opening_at, open_list_of}
 use Rattle.session.specs.Lowest.{lowest_free}
 use Rattle.session.specs.Shapes.{granted_by}

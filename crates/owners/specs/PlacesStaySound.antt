@@ -8,10 +8,9 @@ use Rattle.endpoint.specs.Calls.{calls_of}
 use Rattle.endpoint.specs.Sound.{Sound}
 use Rattle.endpoint.specs.StaysSound.{call_keeps, reached_sound}
 use Rattle.session.specs.declared.Session.{Session}
-use Rattle.session.specs.declared.Opening.{Opening}
 use Rattle.session.specs.Place.{blank, blank_token, places, place_of, place_answer}
 use Rattle.session.specs.Call.{Stores, no_stores, lent_of, kept_of, endpoint_of, Asked, calls, closes, lends_for, Made, done_of, made_of, made_refused, made_done}
-use Rattle.session.specs.Open.{opened_for}
+use Rattle.session.specs.Open.{Opening, opened_for}
 use Rattle.session.specs.List.{outcome_of, list_of, lowest_of, opening_at, open_list_of}
 use Rattle.owners.specs.Seeing.{set_same, kept_lent, by_answer, opening_ways}
 use Rattle.owners.specs.Histories.{call_by, call_list, call_stores, open_stores}

@@ -5,9 +5,9 @@ use Rattle.std.proofs.Common.{⊎_elim, sym, ◌∙◌, ap, subst}
 use Rattle.common.specs.Answer.{left_of, left_refused}
 use Rattle.endpoint.specs.RefusedChangesNothing.{refused_changes_nothing}
 use Rattle.session.specs.declared.Session.{Session}
-use Rattle.session.specs.declared.Opening.{Opening}
 use Rattle.session.specs.Place.{blank, place_of, place_answer}
 use Rattle.session.specs.Call.{Stores, Lends, lends, lent_of, kept_of, endpoint_of, stores_of, holding, Asked, calls, closes, lends_for, Made, done_of, made_of, made_refused, made_done}
+use Rattle.session.specs.Open.{Opening}
 use Rattle.session.specs.List.{outcome_of, list_of, lowest_of, opening_at, open_list_of}
 use Rattle.owners.specs.Seeing.{set_same, kept_lent, by_answer, opening_ways}
 use Rattle.owners.specs.SessionsAreEndpoints.{own_call, call_answer, call_leaves}

@@ -7,10 +7,9 @@ use borrow.Author.Tests.{eq-eqb, ne_eqb, eqb-true, eqb-false, le-leb, lt-leb, le
 use Rattle.common.specs.Order.{first}
 use Rattle.endpoint.specs.Open.{opened_of}
 use Rattle.session.specs.declared.Session.{Session}
-use Rattle.session.specs.declared.Opening.{Opening}
 use Rattle.session.specs.Place.{blank, blank_token, places, place_answer}
 use Rattle.session.specs.Call.{Stores, Lends, the_receivers, the_senders, neither, lent_of, kept_of, Asked, calls, closes, Made, done_of, refused_by, made_of, made_refused, made_done}
-use Rattle.session.specs.Open.{open_answer, refused_opening, opened_for, opening_of}
+use Rattle.session.specs.Open.{Opening, open_answer, refused_opening, opened_for, opening_of}
 use Rattle.session.specs.Shapes.{granted_by}
 use Rattle.owners.specs.View.{seen, seen_own, seen_other, seen_blank, blank_other}
 

@@ -7,20 +7,16 @@ ghost use Rattle.wire.specs.Frame.{swapped, byte_at, word_at, three_at};
 ghost use Rattle.wire.specs.Layout.{sized, part_of};
 
 // The byte at a place, the first and the eighth exchanged; 0 past the end.
+#[tactic(auto, unfolding(wire::specs::Frame::swapped))]
 pub fn byte_at(d: &[u8], i: usize) -> u8
     requires { 8 ≤ length d.now }
     ensures { result ≡ byte_at (swapped d.now) i }
 {
-    if i == 0 {
-        return d[7];
+    match i {
+        0 => d[7],
+        7 => d[0],
+        _ => d.get(i).copied().unwrap_or(0),
     }
-    if i == 7 {
-        return d[0];
-    }
-    if i < d.len() {
-        return d[i];
-    }
-    0
 }
 
 // The two bytes at a place as a number.
@@ -43,15 +39,13 @@ pub fn three_at(d: &[u8], i: usize) -> u32
     low + 65536 * high
 }
 
-// The byte at a place where it is flagged, and 0 where it is not.
+// The byte at a place where it is flagged, and 0 where it is not. This and the two like it differ in what they read and in its type: a function over
+// both would take a closure with a contract of its own, which is longer than the line that it would stand for.
 pub fn byte_if(flag: bool, d: &[u8], i: usize) -> u8
     requires { 8 ≤ length d.now }
     ensures { result ≡ sized flag (byte_at (swapped d.now) i) }
 {
-    if flag {
-        return byte_at(d, i);
-    }
-    0
+    if flag { byte_at(d, i) } else { 0 }
 }
 
 // The number at a place where it is flagged, and 0 where it is not.
@@ -59,10 +53,7 @@ pub fn word_if(flag: bool, d: &[u8], i: usize) -> u16
     requires { (8 ≤ length d.now) × (i ≤ 2000) }
     ensures { result ≡ sized flag (word_at (swapped d.now) i) }
 {
-    if flag {
-        return word_at(d, i);
-    }
-    0
+    if flag { word_at(d, i) } else { 0 }
 }
 
 // The three-byte number at a place where it is flagged, and 0 where it is not.
@@ -70,10 +61,7 @@ pub fn three_if(flag: bool, d: &[u8], i: usize) -> u32
     requires { (8 ≤ length d.now) × (i ≤ 2000) }
     ensures { result ≡ sized flag (three_at (swapped d.now) i) }
 {
-    if flag {
-        return three_at(d, i);
-    }
-    0
+    if flag { three_at(d, i) } else { 0 }
 }
 
 // Copies the n bytes that stand at a place of a datagram over dst from place to on. The datagram's first byte stands at place 7.

@@ -31,12 +31,10 @@ pub fn put(list: &mut [Session], i: usize, s: Session)
 pub fn lowest_free(list: &[Session]) -> usize
     ensures { result ≡ lowest_of list.now }
 {
-    let mut i: usize = 0;
-    while i < list.len() {
-        if session::is_free(list[i]) {
+    for (i, s) in list.iter().enumerate() {
+        if session::is_free(*s) {
             return i;
         }
-        i += 1;
     }
-    i
+    list.len()
 }

@@ -4,7 +4,7 @@
 #![tactic(auto)]
 
 use std::io;
-use wire::{Ack, Delay, Packet, Reading, Vector};
+use wire::{Ack, Delay, Packet, Vector};
 
 // The values of an ACK.
 fn ack(rt: &impl Print, a: Ack) -> io::Result<()> {
@@ -39,16 +39,7 @@ fn part(rt: &impl Print, word: &[u8], d: &[u8], at: usize, n: usize) -> io::Resu
     }
     showing::number(rt, word, at as u64)?;
     rt.write_all(b":")?;
-    if d.len() < 8 {
-        return Ok(());
-    }
-    if d.len() < at {
-        return Ok(());
-    }
-    if d.len() - at < n {
-        return Ok(());
-    }
-    if wire::LONGEST_DATAGRAM < n {
+    if d.len() < 8 || d.len() < at || d.len() - at < n || wire::LONGEST_DATAGRAM < n {
         return Ok(());
     }
     let mut bytes = [0u8; wire::LONGEST_DATAGRAM];
@@ -73,10 +64,8 @@ fn values(rt: &impl Print, p: Packet) -> io::Result<()> {
 // The bytes of a packet that have a length of their own.
 fn parts(rt: &impl Print, p: Packet, d: &[u8]) -> io::Result<()> {
     let v = p.values;
-    let a = v.ack;
-    let x = v.vector;
-    part(rt, b" additions=", d, p.additions, a.count as usize)?;
-    part(rt, b" coded=", d, p.vector, x.size as usize)?;
+    part(rt, b" additions=", d, p.additions, v.ack.count as usize)?;
+    part(rt, b" coded=", d, p.vector, v.vector.size as usize)?;
     part(rt, b" block=", d, p.body, p.bytes)?;
     showing::some(rt, b" bytes=", p.bytes as u64)
 }
@@ -84,11 +73,9 @@ fn parts(rt: &impl Print, p: Packet, d: &[u8]) -> io::Result<()> {
 // Reads a datagram, and shows what it says.
 fn show(rt: &impl Print, d: &[u8]) -> io::Result<()> {
     match reader::read(d) {
-        Reading::Refused(n) => showing::number(rt, b" answer=", n as u64)?,
-        Reading::Dummy => {
-            rt.write_all(b" answer=0 type=8")?;
-        }
-        Reading::Read(p) => {
+        Err(refusal) => showing::number(rt, b" answer=", u8::from(refusal) as u64)?,
+        Ok(None) => rt.write_all(b" answer=0 type=8")?,
+        Ok(Some(p)) => {
             values(rt, p)?;
             parts(rt, p, d)?;
         }
@@ -104,16 +91,11 @@ fn run(rt: &impl Print, line: &[u8]) -> io::Result<()> {
     show(rt, &d[..n])
 }
 
-// Every line of the script.
-fn runs(rt: &impl Print, text: &[u8]) -> io::Result<()> {
-    for line in script::lines(text) {
-        run(rt, line)?;
-    }
-    Ok(())
-}
-
 fn main(rt: HostRuntime) -> io::Result<()> {
     let mut text = [0u8; 16384];
-    let n = script::read(&mut rt.stdin(), &mut text)?;
-    runs(&rt, &text[..n])
+    let n = input::read(&mut rt.stdin(), &mut text)?;
+    for line in script::lines(&text[..n]) {
+        run(&rt, line)?;
+    }
+    Ok(())
 }

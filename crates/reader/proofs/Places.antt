@@ -1,23 +1,10 @@
 -- Where each payload of a packet stands.
-use Prim.Native.Nat.{ℕ, ◌+◌, ◌%◌}
+use Prim.Native.Nat.{ℕ, ◌+◌}
 use mathlib.Core.List.{List}
-use mathlib.Core.Path.{◌≡◌, refl, sym, ◌∙◌, ap}
-use mathlib.Core.Bool.{Bool, true, false, cond}
-use native.Mathlib.Nat.{add-zero}
-use Rattle.wire.specs.Frame.{byte_at}
+use mathlib.Core.Path.{◌≡◌, ◌∙◌, ap}
+use mathlib.Core.Bool.{Bool, cond}
 use Rattle.wire.specs.Flags.{ack_in, data_in, vector_in, aoa_in, overhead_in, delay_in}
-use Rattle.wire.specs.Layout.{sized, ack_size, timed_at, vector_size, ack_end, overhead_end, delay_end, aoa_end, number_end, vector_end, channel_end, Places}
-
--- where a payload of its own length ends, a law for each way out
-pub ends_at : (flag : Bool) (at n size : ℕ) → flag ≡ true → n ≡ at + size → n ≡ at + sized flag size
-ends_at flag at n size t e = rw t e
-
-pub ends_there : (flag : Bool) (at size : ℕ) → flag ≡ false → at ≡ at + sized flag size
-ends_there flag at size t = rw t (sym (add-zero at))
-
-pub vector_size_lem : (p : List ℕ) (at s n : ℕ) (t : Bool) → t ≡ timed_at p at → s ≡ sized t 4 → n ≡ byte_at p (at + 2) % 128
-    → 3 + s + n ≡ vector_size p at
-vector_size_lem p at s n t et es en = rw (es, en, et) refl
+use Rattle.wire.specs.Layout.{sized, ack_size, vector_size, ack_end, overhead_end, delay_end, aoa_end, number_end, vector_end, channel_end, Places}
 
 -- place after place, each from the one before
 pub places_made : (p : List ℕ) (f at1 at2 at3 at4 at5 at6 : ℕ) (a x : Bool) → a ≡ ack_in f → x ≡ vector_in f

@@ -7,7 +7,8 @@ ghost use Rattle.wire.specs.Flags.{both, flag_in};
 ghost use Rattle.wire.specs.Layout.{sized, ack_at, no_ack, delay_at, no_delay, vector_at, no_vector, vector_size, stamp_size, timed_at, values_of, Places};
 ghost use Rattle.wire.specs.Read.{read_payloads, read_packet, read_of};
 
-use wire::{Ack, Delay, Packet, Reading, Values, Vector, bits};
+use common::Refusal;
+use wire::{Ack, Delay, Packet, Values, Vector, bits};
 
 // The ACK payload, which stands behind the header.
 fn read_ack(flag: bool, d: &[u8]) -> Ack
@@ -21,20 +22,15 @@ fn read_ack(flag: bool, d: &[u8]) -> Ack
         let halves = parts::byte_at(d, 9);
         let count = bits::low_four(halves);
         let scale = bits::high_four(halves);
-        return Ack {
+        Ack {
             number,
             time,
             gap,
             count,
             scale,
-        };
-    }
-    Ack {
-        number: 0,
-        time: 0,
-        gap: 0,
-        count: 0,
-        scale: 0,
+        }
+    } else {
+        Ack::default()
     }
 }
 
@@ -46,11 +42,9 @@ fn read_delay(flag: bool, d: &[u8], at: usize) -> Delay
     if flag {
         let most = parts::byte_at(d, at);
         let timeout = parts::word_at(d, at + 1);
-        return Delay { most, timeout };
-    }
-    Delay {
-        most: 0,
-        timeout: 0,
+        Delay { most, timeout }
+    } else {
+        Delay::default()
     }
 }
 
@@ -66,20 +60,15 @@ fn read_vector(flag: bool, d: &[u8], at: usize) -> Vector
         let timed = bits::high_bit(mixed);
         let time = parts::three_if(timed, d, at + 3);
         let gap = parts::byte_if(timed, d, at + 6);
-        return Vector {
+        Vector {
             base,
             size,
             timed,
             time,
             gap,
-        };
-    }
-    Vector {
-        base: 0,
-        size: 0,
-        timed: false,
-        time: 0,
-        gap: 0,
+        }
+    } else {
+        Vector::default()
     }
 }
 
@@ -90,9 +79,10 @@ fn ack_end(flag: bool, d: &[u8]) -> usize
 {
     if flag {
         let count = bits::low_four(parts::byte_at(d, 9));
-        return 10 + count as usize;
+        10 + count as usize
+    } else {
+        3
     }
-    3
 }
 
 // One past the ACKVEC payload that begins at a place.
@@ -104,9 +94,10 @@ fn vector_end(flag: bool, d: &[u8], at: usize) -> usize
         let mixed = parts::byte_at(d, at + 2);
         let size = bits::low_seven(mixed);
         let stamp = bits::size_if(bits::high_bit(mixed), 4);
-        return at + (3 + stamp + size as usize);
+        at + (3 + stamp + size as usize)
+    } else {
+        at
     }
-    at
 }
 
 // Where the vector bytes of the ACKVEC payload at a place stand.
@@ -116,19 +107,17 @@ fn vector_place(flag: bool, d: &[u8], at: usize) -> usize
 {
     if flag {
         let stamp = bits::size_if(bits::high_bit(parts::byte_at(d, at + 2)), 4);
-        return at + 3 + stamp;
+        at + 3 + stamp
+    } else {
+        0
     }
-    0
 }
 
 // Do bytes stand behind the last payload of a packet without DATA?
 fn left_over(content: bool, at: usize, end: usize) -> bool
     ensures { result ≡ both (not content) (ltb at end) }
 {
-    if content {
-        return false;
-    }
-    at < end
+    !content && at < end
 }
 
 // One past a payload of this size that begins at a place, where the flag at that place of the header is set; else the place itself.
@@ -179,7 +168,7 @@ fn values_at(
 }
 
 // The payloads of a packet that goes up to place end: refused with 3 or 6, or taken apart.
-fn read_payloads(d: &[u8], end: usize, header: u16, flags: u16) -> Reading
+fn read_payloads(d: &[u8], end: usize, header: u16, flags: u16) -> Result<Option<Packet>, Refusal>
     requires in_bounds { (8 ≤ length d.now) × (end ≤ 1232) }
     requires header_value { header ≡ word_at (swapped d.now) 1 }
     ensures { result ≡ read_payloads (swapped d.now) flags end }
@@ -193,69 +182,69 @@ fn read_payloads(d: &[u8], end: usize, header: u16, flags: u16) -> Reading
     let at6 = vector_end(isvector, d, at5);
     let at7 = step(at6, flags, wire::DATA, 2);
     if end < at7 {
-        return Reading::Refused(3);
+        return Err(Refusal::PastTheEnd);
     }
     let content = bits::flag(flags, wire::DATA);
     if left_over(content, at7, end) {
-        return Reading::Refused(6);
+        return Err(Refusal::LeftOver);
     }
     let values = values_at(d, header, flags, at1, at2, at3, at4, at5, at6);
     let additions = bits::size_if(bits::flag(flags, wire::ACK), 10);
     let vector = vector_place(isvector, d, at5);
     let body = bits::size_if(content, at7);
     let bytes = bits::size_if(content, end - at7);
-    Reading::Read(Packet {
+    Ok(Some(Packet {
         values,
         additions,
         vector,
         body,
         bytes,
-    })
+    }))
 }
 
 // A packet of type 0 that goes up to place end: refused with 3 (header), 4, 5, 3 (payloads), 6, or taken apart.
-fn read_packet(d: &[u8], end: usize) -> Reading
+fn read_packet(d: &[u8], end: usize) -> Result<Option<Packet>, Refusal>
     requires { (8 ≤ length d.now) × (end ≤ 1232) }
     ensures { result ≡ read_packet (swapped d.now) end }
 {
     if end < 3 {
-        return Reading::Refused(3);
+        return Err(Refusal::PastTheEnd);
     }
     let header = parts::word_at(d, 1);
     let flags = bits::flags_of(header);
     if bits::has_others(flags) {
-        return Reading::Refused(4);
+        return Err(Refusal::OtherFlag);
     }
     if bits::both_flagged(
         bits::flag(flags, wire::ACK),
         bits::flag(flags, wire::ACKVEC),
     ) {
-        return Reading::Refused(5);
+        return Err(Refusal::TwoAcknowledgements);
     }
     read_payloads(d, end, header, flags)
 }
 
 // Reads one datagram of any length. Refused with 1, 2, 3 (header), 4, 5, 3 (payloads), 6, in this order.
-pub fn read(d: &[u8]) -> Reading
+pub fn read(d: &[u8]) -> Result<Option<Packet>, Refusal>
     ensures { result ≡ read_of d.now }
 {
     let n = d.len();
     if n < wire::SHORTEST {
-        return Reading::Refused(1);
+        return Err(Refusal::Length);
     }
     if wire::LONGEST_DATAGRAM < n {
-        return Reading::Refused(1);
+        return Err(Refusal::Length);
     }
     let prefix = parts::byte_at(d, 0);
     if bits::reserved(prefix) {
-        return Reading::Refused(2);
+        return Err(Refusal::Prefix);
     }
     let kind = bits::type_of(prefix);
     if kind == 8 {
-        return Reading::Dummy;
+        return Ok(None);
     }
     if kind != 0 {
-        return Reading::Refused(2);
+        return Err(Refusal::Prefix);
     }
     let end = n - bits::dropped(prefix);
     read_packet(d, end)

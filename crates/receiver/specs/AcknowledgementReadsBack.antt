@@ -1,9 +1,8 @@
 -- What "write acknowledgement" writes reads back as that acknowledgement: the ACK with its values, or the vector, which names exactly the received
 -- numbers from base up to end. Last the same of the call: of the bytes that an accepted one reports, as they stand in the lent output.
-use Rattle.std.specs.Prelude.{ℕ, ◌+◌, ◌-◌, ◌%◌, ◌≤◌, ◌<◌, Bool, true, false, cond, List, [], ◌⊎◌, ◌≡◌, refl, length, take, leb, ltb}
+use Rattle.std.specs.Prelude.{ℕ, ◌+◌, ◌-◌, ◌%◌, ◌≤◌, ◌<◌, Bool, true, false, cond, List, [], ◌⊎◌, ◌≡◌, refl, length, take, leb, ltb, Ok, Some}
 use Rattle.std.proofs.Common.{inl, inr, ⊎_elim, sym, ◌∙◌, ap, arith, le-ltb, lt-ltb}
 use Rattle.std.proofs.lemmas.Bool.{lt-leb, not-false}
-use Rattle.common.specs.declared.Written.TheVariants.{Wrote}
 use Rattle.common.specs.Answer.{written_of, left_of}
 use Rattle.common.specs.Facts.{lt_or_ge, bool}
 use Rattle.common.specs.Order.{first_pass}
@@ -14,7 +13,6 @@ use Rattle.vector.specs.Says.{names}
 use Rattle.vector.specs.Rule.{vector_of}
 use Rattle.vector.specs.ReadsBack.{names_exactly}
 use Rattle.wire.specs.declared.Packet.{Packet}
-use Rattle.wire.specs.declared.Reading.TheVariants.{Read}
 use Rattle.wire.specs.declared.Values.{Values}
 use Rattle.wire.specs.Read.{read_of}
 use Rattle.wire.specs.Write.{datagram_of}
@@ -78,7 +76,7 @@ acknowledgement_reads_back w cap r stamp gap room u h =
 -- received; and every reference that base is near to widens the field to base
 pub record Vectored (w : ℕ) (r : Receiver) (bytes : List ℕ) : Type 0 where
   pub packet : Packet
-  pub reads : read_of bytes ≡ Read packet
+  pub reads : read_of bytes ≡ Ok (Some packet)
   pub values : packet.values ≡ kept_of (vector_values w r)
   pub named : (n : ℕ)
       → names (coded_in bytes packet) r.base.0 n ≡ cond (leb r.base.0 n) (cond (ltb n r.end.0) (is_marked (mark_at w r n)) false) false
@@ -99,7 +97,7 @@ says_vectored w r bytes k =
 
 -- Of the call. Where it is answered by k bytes written, the first k of the output, whatever was lent, read as the ACK, or as the vector.
 pub acknowledge_then_read : (w cap : ℕ) (r : Receiver) (stamp gap : ℕ) (out : List ℕ) (k : ℕ) → w ≤ 880
-    → written_of (acknowledge_answer w cap r stamp gap (length out)) (acknowledgement_of w r stamp gap) ≡ Wrote k
+    → written_of (acknowledge_answer w cap r stamp gap (length out)) (acknowledgement_of w r stamp gap) ≡ Ok k
     → ((all_there r ≡ true)
     × Says (ack_values r stamp gap) [] [] []
     (take k (left_of (acknowledge_answer w cap r stamp gap (length out)) (acknowledgement_of w r stamp gap) out)))

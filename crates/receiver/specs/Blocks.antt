@@ -1,9 +1,8 @@
 -- The block of a datagram that reading accepts: where it stands, and that it fits into a place of the store.
-use Rattle.std.specs.Prelude.{ℕ, ◌+◌, ◌-◌, ◌≤◌, true, List, ◌≡◌, length, drop}
+use Rattle.std.specs.Prelude.{ℕ, ◌+◌, ◌-◌, ◌≤◌, true, List, ◌≡◌, length, drop, Ok, Some}
 use Rattle.std.proofs.Common.{◌∙◌, ap, subst, arith, length-drop, length-take-le}
 use Rattle.window.specs.Store.{place_size}
 use Rattle.wire.specs.declared.Packet.{Packet}
-use Rattle.wire.specs.declared.Reading.TheVariants.{Read}
 use Rattle.wire.specs.Flags.{data_in}
 use Rattle.wire.specs.Frame.{swapped, end_of}
 use Rattle.wire.specs.Layout.{flags_of, ack_end, overhead_end, delay_end, aoa_end, number_end, vector_end, channel_end, values_of, packet_of, part_of}
@@ -42,7 +41,7 @@ found_block d k h =
       long = length-take-le (end_of p - at) (drop at p) (omega (arith, length-drop at p));
     })
 
-pub read_block : (d : List ℕ) (p : Packet) → read_of d ≡ Read p → data_in p.values.flags ≡ true → Block d p
+pub read_block : (d : List ℕ) (p : Packet) → read_of d ≡ Ok (Some p) → data_in p.values.flags ≡ true → Block d p
 unfolding packet_of values_of
 read_block d p e h =
     let (facts, same) = read_found d p e in

@@ -21,4 +21,5 @@ pub mod Facts
 pub mod Blocks
 pub mod Keeping
 pub mod Shown
+pub mod Known
 pub mod Order

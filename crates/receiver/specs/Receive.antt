@@ -1,15 +1,14 @@
 -- Receiving one datagram into the receiver's half: "13, then reading, then .. 7". Each field is widened against the record as given.
-use Rattle.std.specs.Prelude.{ℕ, Bool, cond, List, length}
+use Rattle.std.specs.Prelude.{ℕ, Bool, cond, List, length, Err, Ok, Some, None}
 use Rattle.std.proofs.Math.Option.{Option, none, some}
 use Rattle.numbers.specs.declared.Widened.{Widened}
 use Rattle.numbers.specs.declared.Widened.TheVariants.{At, Below, Unclear}
 use Rattle.numbers.specs.Widen.{widen_of, out_of}
 use Rattle.wire.specs.declared.Values.{Values}
 use Rattle.wire.specs.declared.Packet.{Packet as WirePacket}
-use Rattle.wire.specs.declared.Reading.{Reading}
-use Rattle.wire.specs.declared.Reading.TheVariants.{Refused, Dummy, Read}
 use Rattle.wire.specs.Flags.{data_in, aoa_in}
-use Rattle.wire.specs.Read.{number_of, read_of}
+use Rattle.common.specs.Answer.{no_of}
+use Rattle.wire.specs.Read.{read_of, Reading}
 use Rattle.wire.specs.Same.{body_in}
 use Rattle.receiver.specs.declared.Receiver.{Receiver}
 use Rattle.receiver.specs.Record.{State}
@@ -17,7 +16,7 @@ use Rattle.receiver.specs.Consistent.{sound_of}
 use Rattle.receiver.specs.Packet.{Packet, Arrival, nothing, waiver, content, arrival_answer, arrival_of}
 
 -- the number that a field stands for; "A result below the first number of its kind is out of place", and so is an unclear one
-abbrev pub in_place : ℕ → Widened → Option ℕ
+abbrev pub in_place : ℕ → Widened ℕ → Option ℕ
 in_place first (At n) = cond (out_of first (At n)) none (some n)
 in_place first (Below m) = none
 in_place first Unclear = none
@@ -72,14 +71,14 @@ values_of w s d p = state_for w s (arrival_from s.receiver p.values (body_in d p
 
 -- "Type 8 is a dummy: accepted, .. nothing changed."
 unfoldable pub read_answer : ℕ → Receiver → List ℕ → Reading → ℕ
-read_answer w r d (Refused n) = number_of (Refused n)
-read_answer w r d Dummy = number_of Dummy
-read_answer w r d (Read p) = values_answer w r d p
+read_answer w r d (Err n) = no_of n
+read_answer w r d (Ok None) = 0
+read_answer w r d (Ok (Some p)) = values_answer w r d p
 
 unfoldable pub read_into : ℕ → State → List ℕ → Reading → State
-read_into w s d (Refused n) = s
-read_into w s d Dummy = s
-read_into w s d (Read p) = values_of w s d p
+read_into w s d (Err n) = s
+read_into w s d (Ok None) = s
+read_into w s d (Ok (Some p)) = values_of w s d p
 
 -- the whole call
 unfoldable pub receive_answer : ℕ → ℕ → State → List ℕ → ℕ

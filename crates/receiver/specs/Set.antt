@@ -1,13 +1,11 @@
 -- Demand 3's set of datagrams (document 01, "Demand 3's set, at the outset").
-use Rattle.std.specs.Prelude.{ℕ, ◌+◌, ◌≤◌, ◌<◌, true, List, [], ◌≡◌, length}
+use Rattle.std.specs.Prelude.{ℕ, ◌+◌, ◌≤◌, ◌<◌, true, List, [], ◌≡◌, length, Err, Ok, Some, None}
 use Rattle.std.proofs.Math.Option.{Option, none, some}
 use Rattle.numbers.specs.Full.{highest}
 use Rattle.window.specs.Members.{In}
 use Rattle.wire.specs.declared.Packet.{Packet as WirePacket}
-use Rattle.wire.specs.declared.Reading.{Reading}
-use Rattle.wire.specs.declared.Reading.TheVariants.{Refused, Dummy, Read}
 use Rattle.wire.specs.Flags.{data_in}
-use Rattle.wire.specs.Read.{read_of}
+use Rattle.wire.specs.Read.{read_of, Reading}
 use Rattle.wire.specs.Same.{body_in, Bytes}
 use Rattle.receiver.specs.declared.Receiver.{Receiver}
 use Rattle.receiver.specs.Record.{State, contents}
@@ -21,7 +19,7 @@ use Rattle.receiver.specs.History.{Event, datagrams_of}
 pub record Readable (r : Receiver) (d : List ℕ) : Type 0 where
   pub bytes : Bytes d
   pub taken : WirePacket
-  pub reads : read_of d ≡ Read taken
+  pub reads : read_of d ≡ Ok (Some taken)
   pub carries : data_in taken.values.flags ≡ true
   pub packet : Packet
   pub widens : packet_from r taken.values (body_in d taken) ≡ some packet
@@ -35,9 +33,9 @@ widened none = no_packet
 widened (some p) = p
 
 abbrev packet_read : Receiver → List ℕ → Reading → Packet
-packet_read r d (Refused n) = no_packet
-packet_read r d Dummy = no_packet
-packet_read r d (Read p) = widened (packet_from r p.values (body_in d p))
+packet_read r d (Err n) = no_packet
+packet_read r d (Ok None) = no_packet
+packet_read r d (Ok (Some p)) = widened (packet_from r p.values (body_in d p))
 
 unfoldable pub packet_at : Receiver → List ℕ → Packet
 packet_at r d = packet_read r d (read_of d)

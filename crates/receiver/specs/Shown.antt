@@ -1,11 +1,10 @@
 -- How datagrams are shown to be a set of demand 3 by computing: each reads as the packet that stands in it, and brings one that fits. CanBeMet and the endpoint's examples use it.
-use Rattle.std.specs.Prelude.{ℕ, zero, suc, ◌≤◌, ◌<◌, Bool, true, List, [], ◌∷◌, ◌≡◌, ltb, length}
+use Rattle.std.specs.Prelude.{ℕ, zero, suc, ◌≤◌, ◌<◌, Bool, true, List, [], ◌∷◌, ◌≡◌, ltb, length, Ok, Some}
 use Rattle.std.proofs.Math.Option.{some}
 use Rattle.std.proofs.Common.{sym, ◌∙◌, ap, subst, arith, ltb-true}
 use Rattle.common.specs.Every.{every}
 use Rattle.common.specs.EveryLaws.{AllTrue, every_all}
 use Rattle.window.specs.Members.{In}
-use Rattle.wire.specs.declared.Reading.TheVariants.{Read}
 use Rattle.wire.specs.Flags.{data_in}
 use Rattle.wire.specs.Read.{read_of}
 use Rattle.wire.specs.Same.{body_in, Bytes}
@@ -32,7 +31,7 @@ are_bytes_lem (b ∷ bs) h (suc i) = are_bytes_lem bs h.1 i
 -- the datagram reads, carries DATA, and its numbers, widened against the record, are the packet's
 abbrev pub Brings : Receiver → List ℕ → Packet → Type 0
 Brings r d p =
-    (every (small d) ≡ true) × (read_of d ≡ Read (found d)) × (data_in (found d).values.flags ≡ true)
+    (every (small d) ≡ true) × (read_of d ≡ Ok (Some (found d))) × (data_in (found d).values.flags ≡ true)
     × (packet_from r (found d).values (body_in d (found d)) ≡ some p)
 
 -- the packet fits; its block is the one of its channel number, and agrees with the block that is held there, if one is

@@ -1,8 +1,7 @@
 -- Where "write acknowledgement" writes a vector, no vector that names the same numbers is shorter: a consistent record's range ends at a marked number.
-use Rattle.std.specs.Prelude.{ℕ, ◌+◌, ◌-◌, ◌≤◌, ◌<◌, true, false, List, [], ◌≡◌, length, get_or, take}
+use Rattle.std.specs.Prelude.{ℕ, ◌+◌, ◌-◌, ◌≤◌, ◌<◌, true, false, List, [], ◌≡◌, length, get_or, take, Ok}
 use Rattle.std.proofs.Common.{◌∙◌, ap, arith, leb-false}
 use Rattle.std.proofs.lemmas.Bool.{not-false}
-use Rattle.common.specs.declared.Written.TheVariants.{Wrote}
 use Rattle.common.specs.Answer.{written_of, left_of}
 use Rattle.common.specs.Order.{first_pass}
 use Rattle.vector.specs.Says.{Shortest}
@@ -41,7 +40,7 @@ coded_shortest w r bytes s k v =
 -- THE THEOREM. Of the call, where it is answered by k bytes written and end lies above base: the first k of the output, whatever was lent, read as the
 -- vector of the received numbers from base up to end, and from whatever base no vector that names the same numbers as this one has fewer bytes.
 pub written_vector_is_shortest : (w cap : ℕ) (r : Receiver) (stamp gap : ℕ) (out : List ℕ) (k : ℕ) → w ≤ 880 → all_there r ≡ false
-    → written_of (acknowledge_answer w cap r stamp gap (length out)) (acknowledgement_of w r stamp gap) ≡ Wrote k
+    → written_of (acknowledge_answer w cap r stamp gap (length out)) (acknowledgement_of w r stamp gap) ≡ Ok k
     → (v : Vectored w r (take k (left_of (acknowledge_answer w cap r stamp gap (length out)) (acknowledgement_of w r stamp gap) out)))
     × Shortest (coded_in (take k (left_of (acknowledge_answer w cap r stamp gap (length out)) (acknowledgement_of w r stamp gap) out)) v.packet)
 unfolding acknowledge_answer

@@ -12,7 +12,7 @@ use numbers::{ChannelNumber, DataNumber};
 #[repr(C)]
 #[derive(Clone, Copy)]
 pub struct Hold {
-    // 1 where a block is held, and else 0.
+    // 1 where a block is held, and else 0. It stands beside the length and is no Option: the record crosses to C, and any other byte is refused with 13.
     pub held: u8,
     // The block's length; 0 where none is held.
     pub length: u16,

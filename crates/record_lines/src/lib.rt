@@ -48,10 +48,8 @@ pub fn answer_line(out: &mut [u8], at: usize, sweep: bool, n: u8, lost: u32) -> 
     requires { at + 30 ≤ length out.old }
     ensures { LaidWithin 30 (answer_line sweep n lost) out.old at out.new result }
 {
-    if sweep {
-        if n == 0 {
-            return entry(out, at, b"answer=0,", lost as u64);
-        }
+    if sweep && n == 0 {
+        return entry(out, at, b"answer=0,", lost as u64);
     }
     entry(out, at, b"answer=", n as u64)
 }
@@ -84,13 +82,9 @@ fn sender_places(out: &mut [u8], at: usize, s: Sender) -> usize
     ensures { LaidWithin 6176 (all_places (sender_place s) 32) out.old at out.new result }
 {
     let mut to = at;
-    let mut i = 0;
-    while i < window::PLACES {
-        let p = s.numbers[i];
-        let mid = number_line(out, to, i as u64, p);
-        let b = s.blocks[i];
-        to = block_line(out, mid, i as u64, b);
-        i += 1;
+    for i in 0..window::PLACES {
+        let mid = number_line(out, to, i as u64, s.numbers[i]);
+        to = block_line(out, mid, i as u64, s.blocks[i]);
     }
     to
 }
@@ -120,13 +114,9 @@ fn receiver_places(out: &mut [u8], at: usize, r: Receiver) -> usize
     ensures { LaidWithin 4192 (all_places (receiver_place r) 32) out.old at out.new result }
 {
     let mut to = at;
-    let mut i = 0;
-    while i < window::PLACES {
-        let m = r.marks[i];
-        let mid = mark_line(out, to, i as u64, m);
-        let h = r.holds[i];
-        to = hold_line(out, mid, i as u64, h);
-        i += 1;
+    for i in 0..window::PLACES {
+        let mid = mark_line(out, to, i as u64, r.marks[i]);
+        to = hold_line(out, mid, i as u64, r.holds[i]);
     }
     to
 }

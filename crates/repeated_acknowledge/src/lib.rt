@@ -14,17 +14,14 @@ pub fn acknowledge(s: Sender, bytes: &[u8], ends: &[u32], answers: &mut [u8]) ->
         ≡ answered (on_part (acknowledge_of 32 32) bytes.now ends.now) (on_part (acknowledge_answer 32 32) bytes.now ends.now) s
         answers.old (min (length ends.now) (length answers.old)) }
 {
-    let n = repeating::smaller(ends.len(), answers.len());
     let mut q = s;
     let mut from: usize = 0;
-    let mut i: usize = 0;
-    while i < n {
+    for i in 0..ends.len().min(answers.len()) {
         let end = repeating::end_of(from, ends[i], bytes.len());
         let x = acknowledging::acknowledge(q, &bytes[from..end]);
-        answers[i] = x.answer;
+        answers[i] = common::number(x.answer);
         q = x.sender;
         from = end;
-        i += 1;
     }
     q
 }

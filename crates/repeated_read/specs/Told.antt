@@ -1,9 +1,8 @@
 -- What reading answers, with no enum in it.
-use Rattle.std.specs.Prelude.{true, false}
+use Rattle.std.specs.Prelude.{true, false, Err, Ok, Some, None}
 use Rattle.wire.specs.declared.Packet.{Packet}
-use Rattle.wire.specs.declared.Reading.{Reading}
-use Rattle.wire.specs.declared.Reading.TheVariants.{Refused, Dummy, Read}
-use Rattle.wire.specs.Read.{number_of}
+use Rattle.common.specs.Answer.{no_of}
+use Rattle.wire.specs.Read.{Reading}
 use Rattle.repeated_read.specs.declared.Told.{Told}
 
 -- a packet of zeros
@@ -29,6 +28,6 @@ no_packet =
 
 -- document 01's number, and the packet where one was read
 unfoldable pub told_of : Reading → Told
-told_of (Refused n) = record { packet = no_packet; answer = number_of (Refused n); dummy = false }
-told_of Dummy = record { packet = no_packet; answer = number_of Dummy; dummy = true }
-told_of (Read p) = record { packet = p; answer = number_of (Read p); dummy = false }
+told_of (Err r) = record { packet = no_packet; answer = no_of r; dummy = false }
+told_of (Ok None) = record { packet = no_packet; answer = 0; dummy = true }
+told_of (Ok (Some p)) = record { packet = p; answer = 0; dummy = false }

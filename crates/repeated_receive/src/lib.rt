@@ -33,19 +33,16 @@ pub fn receive(
         ≡ answered (on_part (receive_of 32 32) bytes.now ends.now) (on_part (receive_answer 32 32) bytes.now ends.now)
         (halves s r store.old) answers.old (min (length ends.now) (length answers.old)) }
 {
-    let n = repeating::smaller(ends.len(), answers.len());
     let mut q = s;
     let mut t = r;
     let mut from: usize = 0;
-    let mut i: usize = 0;
-    while i < n {
+    for i in 0..ends.len().min(answers.len()) {
         let end = repeating::end_of(from, ends[i], bytes.len());
         let y = receiving::receive(q, t, store, &bytes[from..end]);
-        answers[i] = y.answer;
+        answers[i] = common::number(y.answer);
         q = y.sender;
         t = y.receiver;
         from = end;
-        i += 1;
     }
     Both {
         sender: q,

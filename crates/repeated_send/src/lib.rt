@@ -24,18 +24,14 @@ pub fn send(
         ≡ answered (on_part (send_step tick) bytes.now ends.now) (on_part send_number bytes.now ends.now)
         (sending_of s store.old out.old) answers.old (min (length ends.now) (length answers.old)) }
 {
-    let n = repeating::smaller(ends.len(), answers.len());
     let mut q = s;
     let mut from: usize = 0;
-    let mut i: usize = 0;
-    while i < n {
+    for i in 0..ends.len().min(answers.len()) {
         let end = repeating::end_of(from, ends[i], bytes.len());
         let x = sending::send(q, store, tick, &bytes[from..end], out);
-        let w = x.written;
-        answers[i] = repeating::number(w);
+        answers[i] = repeating::number(x.written);
         q = x.sender;
         from = end;
-        i += 1;
     }
     q
 }

@@ -5,7 +5,6 @@ ghost use Rattle.std.specs.Prelude.{◌≡◌, length};
 ghost use Rattle.repeating.specs.Calls.{each_time, after, answered};
 ghost use Rattle.repeating.specs.Steps.{taking_of, take_step, take_number};
 
-use common::Written;
 use receiver::Receiver;
 use taking::Taken;
 
@@ -20,14 +19,11 @@ pub fn take(r: Receiver, store: &[u8], out: &mut [u8], answers: &mut [u32]) -> R
     // What a call gives back is kept whole, which spares a copy of the record.
     let mut x = Taken {
         receiver: r,
-        written: Written::Refused(0),
+        written: Ok(0),
     };
-    let mut turn: usize = 0;
-    while turn < answers.len() {
+    for turn in 0..answers.len() {
         x = taking::take(x.receiver, store, out);
-        let w = x.written;
-        answers[turn] = repeating::number(w);
-        turn += 1;
+        answers[turn] = repeating::number(x.written);
     }
     x.receiver
 }

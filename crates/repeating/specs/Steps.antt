@@ -1,8 +1,7 @@
 -- One call of each kind, with every lent buffer that it may change, as a step from one state to the next.
-use Rattle.std.specs.Prelude.{ℕ, ◌+◌, ◌%◌, List, length}
-use Rattle.common.specs.declared.Written.{Written}
-use Rattle.common.specs.declared.Written.TheVariants.{Refused, Wrote}
-use Rattle.common.specs.Answer.{written_of, left_of}
+use Rattle.common.specs.declared.Refusal.{Refusal}
+use Rattle.std.specs.Prelude.{ℕ, ◌+◌, ◌%◌, List, length, Err, Ok, Result}
+use Rattle.common.specs.Answer.{no_of, written_of, left_of}
 use Rattle.receiver.specs.declared.Receiver.{Receiver}
 use Rattle.receiver.specs.Record as receiving
 use Rattle.receiver.specs.Take.{take_answer, block_due, taken_of}
@@ -11,9 +10,9 @@ use Rattle.sender.specs.Record as sending
 use Rattle.sender.specs.Send.{new_answer, new_datagram, new_of}
 
 -- the answer of a call that writes, as one number: the refusal's, or 256 and how many bytes were written
-unfoldable pub written_number : Written → ℕ
-written_number (Refused n) = n
-written_number (Wrote k) = 256 + k % 65536
+unfoldable pub written_number : Result ℕ Refusal → ℕ
+written_number (Err r) = no_of r
+written_number (Ok k) = 256 + k % 65536
 
 -- a sender, its store and an output
 pub record Sending : Type 0 where

@@ -4,35 +4,21 @@
 ghost use Rattle.std.specs.Prelude.{◌≡◌, max, min};
 ghost use Rattle.repeating.specs.Steps.{written_number};
 
-use common::Written;
-
-// The smaller of two numbers.
-pub fn smaller(a: usize, b: usize) -> usize
-    ensures { result ≡ min a b }
-{
-    if a < b {
-        return a;
-    }
-    b
-}
+use common::Refusal;
 
 // Where a part ends that begins at a place of so many bytes: as it is said, but not before it begins, nor past the bytes.
 pub fn end_of(from: usize, said: u32, bytes: usize) -> usize
     ensures { result ≡ max from (min said bytes) }
 {
-    let end = smaller(said as usize, bytes);
-    if from < end {
-        return end;
-    }
-    from
+    from.max((said as usize).min(bytes))
 }
 
 // The answer of a call that writes, as one number: the refusal's, or 256 and how many bytes were written.
-pub fn number(w: Written) -> u32
+pub fn number(w: Result<usize, Refusal>) -> u32
     ensures { result ≡ written_number w }
 {
     match w {
-        Written::Refused(n) => n as u32,
-        Written::Wrote(k) => 256 + (k % 65536) as u32,
+        Err(refusal) => u8::from(refusal) as u32,
+        Ok(k) => 256 + (k % 65536) as u32,
     }
 }

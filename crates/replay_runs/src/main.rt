@@ -11,30 +11,20 @@ mod replaying;
 // One line of the script.
 fn run(rt: &impl Print, line: &[u8]) -> io::Result<()> {
     script::name(rt, line)?;
-    let call = script::call(line);
-    if call == b'r' {
-        replaying::traced(rt, line)?;
-    }
-    if call == b'e' {
-        recording::events(rt, line)?;
-    }
-    if call == b'h' {
-        recording::heads(rt, line)?;
+    match script::call(line) {
+        b'r' => replaying::traced(rt, line)?,
+        b'e' => recording::events(rt, line)?,
+        b'h' => recording::heads(rt, line)?,
+        _ => (),
     }
     rt.write_all(b"\n")
 }
 
-// Every line of the script.
-fn runs(rt: &impl Print, text: &[u8]) -> io::Result<()> {
-    for line in script::lines(text) {
-        run(rt, line)?;
-    }
-    Ok(())
-}
-
 fn main(rt: HostRuntime) -> io::Result<()> {
     let mut text = [0u8; 16384];
-    let n = script::read(&mut rt.stdin(), &mut text)?;
-    runs(&rt, &text[..n])?;
+    let n = input::read(&mut rt.stdin(), &mut text)?;
+    for line in script::lines(&text[..n]) {
+        run(&rt, line)?;
+    }
     recording::recorded(&rt)
 }

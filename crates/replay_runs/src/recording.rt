@@ -2,17 +2,13 @@
 ghost use Rattle.std.specs.Prelude.{◌≤◌, length};
 
 use crate::replaying;
-use common::Written;
 use std::io;
 
 // Records the head; the result is the next free place.
 fn head(out: &mut [u8]) -> usize
     ensures { result ≤ length out.old }
 {
-    match trace_head::head(0, 0, 1000, out) {
-        Written::Refused(_) => 0,
-        Written::Wrote(k) => k,
-    }
+    trace_head::head(0, 0, 1000, out).unwrap_or(0)
 }
 
 // Records one event from place at on; the result is the next free place.
@@ -20,10 +16,7 @@ fn event(out: &mut [u8], at: usize, tick: u32, kind: u8, bytes: &[u8]) -> usize
     requires { at ≤ length out.old }
     ensures { result ≤ length out.old }
 {
-    match trace_writing::event(tick, kind, bytes, &mut out[at..]) {
-        Written::Refused(_) => at,
-        Written::Wrote(k) => at + k,
-    }
+    at + trace_writing::event(tick, kind, bytes, &mut out[at..]).unwrap_or(0)
 }
 
 // Records an event of every kind.
@@ -67,8 +60,8 @@ pub(crate) fn recorded(rt: &impl Print) -> io::Result<()> {
 fn tells(rt: &impl Print, line: &[u8], bytes: &[u8], out: &mut [u8]) -> io::Result<()> {
     showing::fill(out);
     let w = trace_writing::event(
-        (script::number(line, b"tick=") % 4294967296) as u32,
-        (script::number(line, b"kind=") % 256) as u8,
+        script::long(line, b"tick="),
+        script::byte(line, b"kind="),
         bytes,
         out,
     );
@@ -80,17 +73,17 @@ pub(crate) fn events(rt: &impl Print, line: &[u8]) -> io::Result<()> {
     let mut bytes = [0u8; 64];
     let mut out = [0u8; 256];
     let n = script::bytes(line, b"bytes=", &mut bytes);
-    let room = script::lent(line, b"room=", 0, 256);
-    tells(rt, line, &bytes[..n], &mut out[..room])
+    let part = script::lent(line, b"room=", 0, &mut out);
+    tells(rt, line, &bytes[..n], part)
 }
 
 // A head into this buffer.
 fn begins(rt: &impl Print, line: &[u8], out: &mut [u8]) -> io::Result<()> {
     showing::fill(out);
     let w = trace_head::head(
-        (script::number(line, b"firstdata=") % 4294967296) as u32,
-        (script::number(line, b"firstchannel=") % 4294967296) as u32,
-        (script::number(line, b"timeout=") % 4294967296) as u32,
+        script::long(line, b"firstdata="),
+        script::long(line, b"firstchannel="),
+        script::long(line, b"timeout="),
         out,
     );
     showing::answered(rt, w, out)
@@ -99,6 +92,5 @@ fn begins(rt: &impl Print, line: &[u8], out: &mut [u8]) -> io::Result<()> {
 // A head of a line of the script, into room for so many bytes.
 pub(crate) fn heads(rt: &impl Print, line: &[u8]) -> io::Result<()> {
     let mut out = [0u8; 256];
-    let room = script::lent(line, b"room=", 0, 256);
-    begins(rt, line, &mut out[..room])
+    begins(rt, line, script::lent(line, b"room=", 0, &mut out))
 }

@@ -2,7 +2,6 @@
 // a slash is a newline, a tilde a carriage return, a caret BEGINNING, and a number sign as many zeros as `zeros=` says.
 ghost use Rattle.std.specs.Prelude.{◌≡◌, ◌≤◌, length};
 
-use common::Written;
 use std::io;
 
 // The beginning of most traces: a head, and a send at tick 0.
@@ -14,33 +13,19 @@ const ROOM: usize = 65537;
 
 // Is this a sign that a value of 0 has?
 fn nothing(b: u8) -> bool {
-    if b == b'=' {
-        return true;
-    }
-    if b == b',' {
-        return true;
-    }
-    b == b'0'
+    matches!(b, b'=' | b',' | b'0')
 }
 
 // Is every number of a record's line 0?
 fn zero(line: &[u8]) -> bool {
-    for b in line.iter().skip(script::find(line, 0, b'=')) {
-        if !nothing(*b) {
-            return false;
-        }
-    }
-    true
+    let from = script::find(line, 0, b'=');
+    line[from..].iter().all(|b| nothing(*b))
 }
 
 // Shows an answer's line, or a record's that is not 0.
 fn shown(rt: &impl Print, line: &[u8]) -> io::Result<()> {
-    if 0 < line.len() {
-        if line[0] != b'a' {
-            if zero(line) {
-                return Ok(());
-            }
-        }
+    if !line.is_empty() && line[0] != b'a' && zero(line) {
+        return Ok(());
     }
     rt.write_all(b" ")?;
     rt.write_all(line)
@@ -51,7 +36,7 @@ fn output(rt: &impl Print, text: &[u8]) -> io::Result<()> {
     let mut n: u64 = 0;
     for line in script::lines(text) {
         shown(rt, line)?;
-        n = std::num::wrapping_add_u64(n, 1);
+        n = n.wrapping_add(1);
     }
     showing::number(rt, b" lines=", n)
 }
@@ -59,7 +44,7 @@ fn output(rt: &impl Print, text: &[u8]) -> io::Result<()> {
 // Replays a trace, and shows its output.
 pub(crate) fn replays(rt: &impl Print, trace: &[u8]) -> io::Result<()> {
     let mut text = [0u8; replayer::ROOM];
-    let Written::Wrote(k) = replayer::replay(trace, &mut text) else {
+    let Ok(k) = replayer::replay(trace, &mut text) else {
         return Ok(());
     };
     output(rt, &text[..k])
@@ -104,19 +89,13 @@ fn sign(out: &mut [u8], at: usize, b: u8, zeros: u64) -> usize
     requires { at ≤ length out.old }
     ensures { result ≤ length out.old }
 {
-    if b == b'/' {
-        return put(out, at, b'\n');
+    match b {
+        b'/' => put(out, at, b'\n'),
+        b'~' => put(out, at, b'\r'),
+        b'^' => lay(out, at, &BEGINNING),
+        b'#' => pass(out, at, zeros),
+        _ => put(out, at, b),
     }
-    if b == b'~' {
-        return put(out, at, b'\r');
-    }
-    if b == b'^' {
-        return lay(out, at, &BEGINNING);
-    }
-    if b == b'#' {
-        return pass(out, at, zeros);
-    }
-    put(out, at, b)
 }
 
 // Lays a trace over out, and answers its length.
@@ -125,7 +104,7 @@ fn lays(line: &[u8], out: &mut [u8]) -> usize
 {
     let zeros = script::number(line, b"zeros=");
     let mut at = 0;
-    for b in line.iter().skip(script::value(line, b"trace=")) {
+    for b in &line[script::value(line, b"trace=")..] {
         at = sign(out, at, *b, zeros);
     }
     at

@@ -1,5 +1,5 @@
 -- Laws of the steps over a trace's lines: what one line of the head or of an event does, and what all of them write.
-use Rattle.std.specs.Prelude.{ℕ, ◌≤◌, ◌<◌, Bool, true, false, cond, List, [], ◌∷◌, ◌++◌, ◌≡◌, eqb, ltb}
+use Rattle.std.specs.Prelude.{ℕ, ◌≤◌, ◌<◌, Bool, true, false, cond, List, [], ◌∷◌, ◌++◌, ◌≡◌, eqb, ltb, Option, None, Some}
 use Rattle.std.proofs.Common.{append_assoc, append-nil, sym, ◌∙◌, ap, arith, ne_eqb, eqb-true, lt-ltb, le-ltb, le-leb}
 use Rattle.std.proofs.Math.Path.{refl}
 use Rattle.common.specs.Order.{test, first}
@@ -8,10 +8,6 @@ use Rattle.numbers.specs.Full.{highest_first}
 use Rattle.sender.specs.Record.{shortest_timeout, longest_timeout}
 use Rattle.text.specs.Ascii.{ascii}
 use Rattle.trace.specs.declared.Cursor.{Cursor}
-use Rattle.trace.specs.declared.Value.{Value}
-use Rattle.trace.specs.declared.Value.TheVariants.{Bad, Given}
-use Rattle.trace.specs.declared.Pair.{Pair}
-use Rattle.trace.specs.declared.Pair.TheVariants as pair
 use Rattle.trace.specs.Words.{same}
 use Rattle.trace.specs.Numbers.{number_under, first_of, on_number, on_pair}
 use Rattle.trace.specs.Kinds.{kind_of}
@@ -54,11 +50,11 @@ run_ended m (l ∷ ls) h = rw (text_ended m l h, step_ended m l h) (run_ended m 
 
 -- one line of an event
 module _ (c : Cursor) (e : Endpoint) where
-  tick_bad : (l : List ℕ) → number_under (ascii "tick=") l ≡ Bad → step_of (machine (due_of c 4) e) l ≡ machine (due_of c 7) e
+  tick_bad : (l : List ℕ) → number_under (ascii "tick=") l ≡ None → step_of (machine (due_of c 4) e) l ≡ machine (due_of c 7) e
   unfolding step_of next_of at_tick
   tick_bad l h = rw h refl
 
-  tick_good : (l : List ℕ) (n : ℕ) → number_under (ascii "tick=") l ≡ Given n → step_of (machine (due_of c 4) e) l ≡ machine (tick_read c n) e
+  tick_good : (l : List ℕ) (n : ℕ) → number_under (ascii "tick=") l ≡ Some n → step_of (machine (due_of c 4) e) l ≡ machine (tick_read c n) e
   unfolding step_of next_of at_tick
   tick_good l n h = rw h refl
 
@@ -135,9 +131,9 @@ unfolding events_of
 events_run [] c e = run_none (machine (due_of c 4) e) ∙ end_whole c e
 events_run (t ∷ []) c e = by (number_under (ascii "tick=") t) refl
   where
-    by : (v : Value) → number_under (ascii "tick=") t ≡ v → run_of (machine (due_of c 4) e) (t ∷ []) ≡ events_replayed e (events [] false)
-    by Bad h = run_as _ _ t [] [] (tick_bad c e t h) (tick_text c e t) ∙ stopped c e []
-    by (Given n) h =
+    by : (v : Option ℕ) → number_under (ascii "tick=") t ≡ v → run_of (machine (due_of c 4) e) (t ∷ []) ≡ events_replayed e (events [] false)
+    by None h = run_as _ _ t [] [] (tick_bad c e t h) (tick_text c e t) ∙ stopped c e []
+    by (Some n) h =
         run_as _ _ t [] [] (tick_good c e t n h) (tick_text c e t)
         ∙ run_none (machine (tick_read c n) e) ∙ end_at (tick_read c n) e 5 (omega arith) (omega arith) ∙ end_stopped e
 events_run (t ∷ k ∷ []) c e = by (number_under (ascii "tick=") t) refl
@@ -148,9 +144,9 @@ events_run (t ∷ k ∷ []) c e = by (number_under (ascii "tick=") t) refl
         run_as _ _ k [] [] (kind_good c e n k h) (kind_text_lem c e n k)
         ∙ run_none (machine (kind_read (tick_read c n) (kind_of k)) e) ∙ end_at (kind_read (tick_read c n) (kind_of k)) e 6 (omega arith) (omega arith) ∙ end_stopped e
 
-    by : (v : Value) → number_under (ascii "tick=") t ≡ v → run_of (machine (due_of c 4) e) (t ∷ k ∷ []) ≡ events_replayed e (events [] false)
-    by Bad h = run_as _ _ t [] (k ∷ []) (tick_bad c e t h) (tick_text c e t) ∙ stopped c e (k ∷ [])
-    by (Given n) h = run_as _ _ t [] (k ∷ []) (tick_good c e t n h) (tick_text c e t) ∙ with_kind n (eqb (kind_of k) 0) refl
+    by : (v : Option ℕ) → number_under (ascii "tick=") t ≡ v → run_of (machine (due_of c 4) e) (t ∷ k ∷ []) ≡ events_replayed e (events [] false)
+    by None h = run_as _ _ t [] (k ∷ []) (tick_bad c e t h) (tick_text c e t) ∙ stopped c e (k ∷ [])
+    by (Some n) h = run_as _ _ t [] (k ∷ []) (tick_good c e t n h) (tick_text c e t) ∙ with_kind n (eqb (kind_of k) 0) refl
 events_run (t ∷ k ∷ d ∷ ls) c e = by (number_under (ascii "tick=") t) refl (λ x f. events_run ls x f)
   where
     Rest : Type 0
@@ -173,11 +169,11 @@ events_run (t ∷ k ∷ d ∷ ls) c e = by (number_under (ascii "tick=") t) refl
     with_kind n false h rest =
         run_as _ _ k [] (d ∷ ls) (kind_good c e n k h) (kind_text_lem c e n k) ∙ with_data n (data_good (kind_of k) d) refl rest
 
-    by : (v : Value) → number_under (ascii "tick=") t ≡ v → Rest
+    by : (v : Option ℕ) → number_under (ascii "tick=") t ≡ v → Rest
         → run_of (machine (due_of c 4) e) (t ∷ k ∷ d ∷ ls)
         ≡ events_replayed e (on_number v (λ n. cond (eqb (kind_of k) 0) (events [] false) (cond (data_good (kind_of k) d) (and_then (event n (kind_of k) (data_bytes d)) (events_of ls)) (events [] false))) (events [] false))
-    by Bad h rest = run_as _ _ t [] (k ∷ d ∷ ls) (tick_bad c e t h) (tick_text c e t) ∙ stopped c e (k ∷ d ∷ ls)
-    by (Given n) h rest = run_as _ _ t [] (k ∷ d ∷ ls) (tick_good c e t n h) (tick_text c e t) ∙ with_kind n (eqb (kind_of k) 0) refl rest
+    by None h rest = run_as _ _ t [] (k ∷ d ∷ ls) (tick_bad c e t h) (tick_text c e t) ∙ stopped c e (k ∷ d ∷ ls)
+    by (Some n) h rest = run_as _ _ t [] (k ∷ d ∷ ls) (tick_good c e t n h) (tick_text c e t) ∙ with_kind n (eqb (kind_of k) 0) refl rest
 
 -- a head that is refused or incomplete
 end_head : (c : Cursor) (e : Endpoint) (d : ℕ) → d < 4 → end_text (machine (due_of c d) e) ≡ refusal 16
@@ -226,19 +222,19 @@ module _ (c : Cursor) (e : Endpoint) where
   unfolding step_of next_of at_edition
   edition_step l = refl
 
-  first_bad : (l : List ℕ) → first_of l ≡ pair.Bad → step_of (machine (due_of c 2) e) l ≡ machine (due_of c 8) e
+  first_bad : (l : List ℕ) → first_of l ≡ None → step_of (machine (due_of c 2) e) l ≡ machine (due_of c 8) e
   unfolding step_of next_of at_first
   first_bad l h = rw h refl
 
-  first_good : (l : List ℕ) (d k : ℕ) → first_of l ≡ pair.Both d k → step_of (machine (due_of c 2) e) l ≡ machine (first_read c d k) e
+  first_good : (l : List ℕ) (d k : ℕ) → first_of l ≡ Some (d, k) → step_of (machine (due_of c 2) e) l ≡ machine (first_read c d k) e
   unfolding step_of next_of at_first
   first_good l d k h = rw h refl
 
-  timeout_bad : (d k : ℕ) (l : List ℕ) → number_under (ascii "timeout=") l ≡ Bad → step_of (machine (first_read c d k) e) l ≡ machine (due_of (first_read c d k) 8) e
+  timeout_bad : (d k : ℕ) (l : List ℕ) → number_under (ascii "timeout=") l ≡ None → step_of (machine (first_read c d k) e) l ≡ machine (due_of (first_read c d k) 8) e
   unfolding step_of next_of at_timeout opening
   timeout_bad d k l h = rw h refl
 
-  timeout_read_lem : (d k t : ℕ) (l : List ℕ) → number_under (ascii "timeout=") l ≡ Given t
+  timeout_read_lem : (d k t : ℕ) (l : List ℕ) → number_under (ascii "timeout=") l ≡ Some t
       → step_of (machine (first_read c d k) e) l ≡ opening (machine (first_read c d k) e) (timeout_read (first_read c d k) t)
   unfolding step_of next_of at_timeout
   timeout_read_lem d k t l h = rw h refl
@@ -304,9 +300,9 @@ timeout_run c d k (t ∷ ls) = by (number_under (ascii "timeout=") t) refl
     none : step_text (machine (first_read c d k) not_opened) t ≡ []
     none = head_text_lem (first_read c d k) not_opened 3 t (omega arith)
 
-    by : (v : Value) → number_under (ascii "timeout=") t ≡ v → run_of (machine (first_read c d k) not_opened) (t ∷ ls) ≡ head_replayed (on_number v (λ m. head d k m ls) no_head)
-    by Bad h = run_as _ _ t [] ls (timeout_bad c not_opened d k t h) none ∙ no_head_lem (first_read c d k) not_opened ls ∙ replayed_none
-    by (Given m) h = run_as _ _ t [] ls (timeout_read_lem c not_opened d k m t h) none ∙ opened_lines d k m ls c (eqb (open_answer d k m) 0) refl
+    by : (v : Option ℕ) → number_under (ascii "timeout=") t ≡ v → run_of (machine (first_read c d k) not_opened) (t ∷ ls) ≡ head_replayed (on_number v (λ m. head d k m ls) no_head)
+    by None h = run_as _ _ t [] ls (timeout_bad c not_opened d k t h) none ∙ no_head_lem (first_read c d k) not_opened ls ∙ replayed_none
+    by (Some m) h = run_as _ _ t [] ls (timeout_read_lem c not_opened d k m t h) none ∙ opened_lines d k m ls c (eqb (open_answer d k m) 0) refl
 
 first_run : (c : Cursor) (ls : List (List ℕ)) → run_of (machine (due_of c 2) not_opened) ls ≡ head_replayed (first_lines ls)
 first_run c [] = run_none (machine (due_of c 2) not_opened) ∙ end_head c not_opened 2 (omega arith) ∙ replayed_none
@@ -315,9 +311,9 @@ first_run c (p ∷ ls) = by (first_of p) refl
     none : step_text (machine (due_of c 2) not_opened) p ≡ []
     none = head_text_lem c not_opened 2 p (omega arith)
 
-    by : (v : Pair) → first_of p ≡ v → run_of (machine (due_of c 2) not_opened) (p ∷ ls) ≡ head_replayed (on_pair v (λ d k. timeout_lines d k ls) no_head)
-    by pair.Bad h = run_as _ _ p [] ls (first_bad c not_opened p h) none ∙ no_head_lem c not_opened ls ∙ replayed_none
-    by (pair.Both d k) h = run_as _ _ p [] ls (first_good c not_opened p d k h) none ∙ timeout_run c d k ls
+    by : (v : Option (ℕ × ℕ)) → first_of p ≡ v → run_of (machine (due_of c 2) not_opened) (p ∷ ls) ≡ head_replayed (on_pair v (λ d k. timeout_lines d k ls) no_head)
+    by None h = run_as _ _ p [] ls (first_bad c not_opened p h) none ∙ no_head_lem c not_opened ls ∙ replayed_none
+    by (Some (d, k)) h = run_as _ _ p [] ls (first_good c not_opened p d k h) none ∙ timeout_run c d k ls
 
 -- a line that must be one fixed text
 fixed_run : (c : Cursor) (d n : ℕ) (l w : List ℕ) (ls : List (List ℕ)) (x : Head) → d < 4
@@ -344,9 +340,9 @@ either_way : (b : Bool) → cond b no_head no_head ≡ no_head
 either_way true = refl
 either_way false = refl
 
-no_pair : (v : Pair) → on_pair v (λ d k. no_head) no_head ≡ no_head
-no_pair pair.Bad = refl
-no_pair (pair.Both d k) = refl
+no_pair : (v : Option (ℕ × ℕ)) → on_pair v (λ d k. no_head) no_head ≡ no_head
+no_pair None = refl
+no_pair (Some (d, k)) = refl
 
 pub same_head : (ls : List (List ℕ)) → format_lines ls ≡ head_of ls
 unfolding head_of

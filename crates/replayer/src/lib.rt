@@ -9,7 +9,7 @@ ghost use Rattle.trace.specs.Lines.{lines_of};
 ghost use Rattle.replayer.specs.Replay.{blank_store, replay_of};
 ghost use Rattle.trace_state.specs.Steps.{begun, end_for, run_of};
 
-use common::Written;
+use common::Refusal;
 use trace_state::State;
 
 // The longest trace.
@@ -23,24 +23,15 @@ fn finish(s: State, out: &mut [u8], at: usize) -> usize
     requires { at + 10881 ≤ length out.old }
     ensures { LaidWithin 10881 (end_for s.cursor.due s.sender s.receiver) out.old at out.new result }
 {
-    let c = s.cursor;
-    let due = c.due;
-    let sender = s.sender;
-    let receiver = s.receiver;
-    if due == trace::TICK_DUE {
-        return record_lines::full_record(out, at, sender, receiver);
+    match s.cursor.due {
+        trace::TICK_DUE => record_lines::full_record(out, at, s.sender, s.receiver),
+        trace::KIND_DUE..=trace::BROKEN => {
+            let mid = record_lines::answer_line(out, at, false, 16, 0);
+            record_lines::full_record(out, mid, s.sender, s.receiver)
+        }
+        trace_state::UNOPENED => record_lines::answer_line(out, at, false, 15, 0),
+        _ => record_lines::answer_line(out, at, false, 16, 0),
     }
-    if due == trace_state::UNOPENED {
-        return record_lines::answer_line(out, at, false, 15, 0);
-    }
-    if due < trace::TICK_DUE {
-        return record_lines::answer_line(out, at, false, 16, 0);
-    }
-    if due <= trace::BROKEN {
-        let mid = record_lines::answer_line(out, at, false, 16, 0);
-        return record_lines::full_record(out, mid, sender, receiver);
-    }
-    record_lines::answer_line(out, at, false, 16, 0)
 }
 
 // The replay of a trace, line by line, over both stores.
@@ -51,6 +42,7 @@ fn run(trace: &[u8], store: &mut [u8], sent: &mut [u8], out: &mut [u8]) -> usize
     let mut state = trace_state::begin();
     let mut at = 0;
     let mut from = 0;
+    // An iterator over the lines would carry this place in a struct of its own, and the proof counts the lines that are left by it.
     while from < trace.len() {
         let end = trace_words::find(trace, from, trace::NEWLINE);
         let x = stepping::step(state, &trace[from..end], store, sent, out, at);
@@ -83,7 +75,7 @@ fn lines(trace: &[u8], out: &mut [u8]) -> usize
 }
 
 // Replays a trace of any length into out. Refused with 14 where out is too short for its lines; 131,072 bytes always suffice.
-pub fn replay(trace: &[u8], out: &mut [u8]) -> Written
+pub fn replay(trace: &[u8], out: &mut [u8]) -> Result<usize, Refusal>
     ensures answer { result ≡ written_of (room_answer (replay_of trace.now) (length out.old)) (replay_of trace.now) }
     ensures bytes { out.new ≡ left_of (room_answer (replay_of trace.now) (length out.old)) (replay_of trace.now) out.old }
     ensures bound { length (replay_of trace.now) ≤ 131072 }
@@ -91,8 +83,8 @@ pub fn replay(trace: &[u8], out: &mut [u8]) -> Written
     let mut text = [0u8; ROOM];
     let n = lines(trace, &mut text);
     if out.len() < n {
-        return Written::Refused(14);
+        return Err(Refusal::Room);
     }
     common::put(out, 0, &text[..n]);
-    Written::Wrote(n)
+    Ok(n)
 }

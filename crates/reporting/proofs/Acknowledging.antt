@@ -1,4 +1,7 @@
 -- Writing an acknowledgement, a law for each way out: nothing refuses its values, so that the room decides.
+use Rattle.common.specs.declared.Refusal.{Refusal}
+use Rattle.std.specs.Prelude.{Err, Result}
+use Rattle.common.specs.declared.Refusal.TheVariants.{Nothing, Unsound}
 use Prim.Native.Nat.{ℕ, ◌+◌, ◌%◌, ◌^◌, ◌≤◌, ◌<◌}
 use mathlib.Core.Bool.{Bool, true, false, cond, not}
 use mathlib.Core.List.{List, []}
@@ -8,9 +11,7 @@ use lib.Dec.{eqb, leb, ltb}
 use lib.ListN.{length, take, length-append}
 use borrow.Author.Tests.{le-leb, lt-leb, le-ltb, eq-eqb, ne_eqb, ltb-true, ltb-false}
 use Rattle.common.specs.Order.{first_here, first_skip}
-use Rattle.common.specs.Answer.{written_of, left_of, written_refused, left_refused, room_answer}
-use Rattle.common.specs.declared.Written.{Written}
-use Rattle.common.specs.declared.Written.TheVariants.{Refused}
+use Rattle.common.specs.Answer.{no_of, no_zero, written_of, left_of, written_refused, left_refused, room_answer}
 use Rattle.vector.specs.Rule.{vector_of}
 use Rattle.wire.specs.declared.Values.{Values}
 use Rattle.wire.specs.Flags.{ack_in, vector_in, outside, six_of, both}
@@ -40,7 +41,7 @@ room_decides v a x b room f l =
     ∙ first_skip _ _ _ f.acks ∙ first_skip _ _ _ f.others
 
 -- an answer and a buffer that are what writing the datagram d answers and leaves
-abbrev pub Writes : List ℕ → List ℕ → Written → List ℕ → Type 0
+abbrev pub Writes : List ℕ → List ℕ → Result ℕ Refusal → List ℕ → Type 0
 Writes d out x left = (x ≡ written_of (room_answer d (length out)) d) × (left ≡ left_of (room_answer d (length out)) d out)
 
 -- AN ACK
@@ -61,15 +62,11 @@ ack_decides : (r : Receiver) (stamp gap room : ℕ)
     → room_answer (datagram_of (ack_values r stamp gap) [] [] []) room ≡ write_answer (ack_values r stamp gap) [] [] [] room
 ack_decides r stamp gap room = room_decides (ack_values r stamp gap) [] [] [] room (ack_plain r stamp gap) (ack_short r stamp gap)
 
-pub ack_written : (r : Receiver) (stamp gap : ℕ) (out : List ℕ) (x : Written) (left : List ℕ)
-    → x ≡ written_of (write_answer (ack_values r stamp gap) [] [] [] (length out)) (datagram_of (ack_values r stamp gap) [] [] [])
-    → left ≡ left_of (write_answer (ack_values r stamp gap) [] [] [] (length out)) (datagram_of (ack_values r stamp gap) [] [] []) out
-    → Writes (datagram_of (ack_values r stamp gap) [] [] []) out x left
-ack_written r stamp gap out x left e f =
-    let q = sym (ack_decides r stamp gap (length out)) in (
-      e ∙ ap (λ (n : ℕ). written_of n (datagram_of (ack_values r stamp gap) [] [] [])) q,
-      f ∙ ap (λ (n : ℕ). left_of n (datagram_of (ack_values r stamp gap) [] [] []) out) q,
-    )
+pub ack_written : (r : Receiver) (stamp gap : ℕ) (v : Values) (out : List ℕ) (x : Result ℕ Refusal) (left : List ℕ)
+    → x ≡ written_of (write_answer v [] [] [] (length out)) (datagram_of v [] [] [])
+    → left ≡ left_of (write_answer v [] [] [] (length out)) (datagram_of v [] [] []) out
+    → v ≡ ack_values r stamp gap → Writes (datagram_of (ack_values r stamp gap) [] [] []) out x left
+ack_written r stamp gap v out x left e f z = rw (ack_decides r stamp gap (length out), ← z) (e, f)
 
 -- A VECTOR
 
@@ -109,51 +106,40 @@ module _ (r : Receiver) (b : List ℕ) (l : length b < 128) where
   vector_decides : (room : ℕ) → room_answer (datagram_of (sized_values r (length b)) [] b []) room ≡ write_answer (sized_values r (length b)) [] b [] room
   vector_decides room = room_decides (sized_values r (length b)) [] b [] room vector_plain packet_short
 
-pub vector_written : (w : ℕ) (r : Receiver) (coded : List ℕ) (k : ℕ) (out : List ℕ) (x : Written) (left : List ℕ) → Coded w r coded k → k < 128
-    → x ≡ written_of (write_answer (sized_values r k) [] (take k coded) [] (length out)) (datagram_of (sized_values r k) [] (take k coded) [])
-    → left ≡ left_of (write_answer (sized_values r k) [] (take k coded) [] (length out)) (datagram_of (sized_values r k) [] (take k coded) []) out
-    → Writes (datagram_of (vector_values w r) [] (vector_of (states_of w r)) []) out x left
-vector_written w r coded k out x left y l e f =
-    let b : List ℕ = take k coded in
-    let c : List ℕ = vector_of (states_of w r) in
-    let ek = y.size in
-    let eb = y.same in
-    let q = sym (vector_decides r (vector_of (states_of w r)) (omega arith) (length out)) in (
-      e
-          ∙ ap (λ (n : ℕ). written_of (write_answer (sized_values r n) [] b [] (length out)) (datagram_of (sized_values r n) [] b [])) ek
-          ∙ ap (λ (y : List ℕ). written_of (write_answer (sized_values r (length c)) [] y [] (length out)) (datagram_of (sized_values r (length c)) [] y [])) eb
-          ∙ ap (λ (n : ℕ). written_of n (datagram_of (sized_values r (length c)) [] c [])) q,
-      f
-          ∙ ap (λ (n : ℕ). left_of (write_answer (sized_values r n) [] b [] (length out)) (datagram_of (sized_values r n) [] b []) out) ek
-          ∙ ap (λ (y : List ℕ). left_of (write_answer (sized_values r (length c)) [] y [] (length out)) (datagram_of (sized_values r (length c)) [] y []) out) eb
-          ∙ ap (λ (n : ℕ). left_of n (datagram_of (sized_values r (length c)) [] c []) out) q,
-    )
+pub vector_written : (w : ℕ) (r : Receiver) (coded : List ℕ) (k : ℕ) (v : Values) (out : List ℕ) (x : Result ℕ Refusal) (left : List ℕ) → Coded w r coded k → k < 128
+    → x ≡ written_of (write_answer v [] (take k coded) [] (length out)) (datagram_of v [] (take k coded) [])
+    → left ≡ left_of (write_answer v [] (take k coded) [] (length out)) (datagram_of v [] (take k coded) []) out
+    → v ≡ sized_values r k → Writes (datagram_of (vector_values w r) [] (vector_of (states_of w r)) []) out x left
+vector_written w r coded k v out x left y l e f z =
+    let d = vector_decides r (vector_of (states_of w r)) (omega (arith, y.size)) (length out) in
+    let s : v ≡ vector_values w r = z ∙ ap (sized_values r) y.size in
+    rw (d, ← s, ← y.same) (e, f)
 
 -- THE WHOLE CALL
 
-abbrev pub Acknowledges : ℕ → ℕ → Receiver → ℕ → ℕ → List ℕ → Written → List ℕ → Type 0
+abbrev pub Acknowledges : ℕ → ℕ → Receiver → ℕ → ℕ → List ℕ → Result ℕ Refusal → List ℕ → Type 0
 Acknowledges w cap r stamp gap out x left =
     (x ≡ written_of (acknowledge_answer w cap r stamp gap (length out)) (acknowledgement_of w r stamp gap))
     × (left ≡ left_of (acknowledge_answer w cap r stamp gap (length out)) (acknowledgement_of w r stamp gap) out)
 
 module _ (w cap : ℕ) (r : Receiver) (stamp gap : ℕ) (out : List ℕ) (b : Bool) (consistent : b ≡ consistent_of w cap r) where
-  refused : (n : ℕ) → n ≡ acknowledge_answer w cap r stamp gap (length out) → (n ≡ 0 → ⊥) → Acknowledges w cap r stamp gap out (Refused n) out
-  refused n e h = (written_refused n _ (acknowledgement_of w r stamp gap) e h, left_refused n _ (acknowledgement_of w r stamp gap) out e h)
+  refused : (x : Refusal) → no_of x ≡ acknowledge_answer w cap r stamp gap (length out) → Acknowledges w cap r stamp gap out (Err x) out
+  refused x e = (written_refused x _ (acknowledgement_of w r stamp gap) e, left_refused (no_of x) _ (acknowledgement_of w r stamp gap) out e (no_zero x))
 
-  pub acknowledge_unsound : b ≡ false → Acknowledges w cap r stamp gap out (Refused 13) out
+  pub acknowledge_unsound : b ≡ false → Acknowledges w cap r stamp gap out (Err Unsound) out
   unfolding acknowledge_answer
-  acknowledge_unsound h = refused 13 (first_here _ _ _ (ap not (sym consistent ∙ h))) (λ q. absurd (omega arith))
+  acknowledge_unsound h = refused Unsound (first_here _ _ _ (ap not (sym consistent ∙ h)))
 
   module _ (h : b ≡ true) where
-    pub acknowledge_nothing : r.end.0 ≤ r.base.0 → r.base.0 ≡ r.firstdata.0 → Acknowledges w cap r stamp gap out (Refused 11) out
+    pub acknowledge_nothing : r.end.0 ≤ r.base.0 → r.base.0 ≡ r.firstdata.0 → Acknowledges w cap r stamp gap out (Err Nothing) out
     unfolding acknowledge_answer
     acknowledge_nothing l e =
         let t : cond (all_there r) (eqb r.base.0 r.firstdata.0) false ≡ true =
         rw (le-leb r.end.0 r.base.0 l) (eq-eqb r.base.0 r.firstdata.0 e) in
-        refused 11 (first_here _ _ _ t ∙ first_skip _ _ _ (ap not (sym consistent ∙ h))) (λ q. absurd (omega arith))
+        refused Nothing (first_here _ _ _ t ∙ first_skip _ _ _ (ap not (sym consistent ∙ h)))
 
     -- what is written is the acknowledgement d
-    answered : (d : List ℕ) (x : Written) (left : List ℕ) → acknowledgement_of w r stamp gap ≡ d
+    answered : (d : List ℕ) (x : Result ℕ Refusal) (left : List ℕ) → acknowledgement_of w r stamp gap ≡ d
         → cond (all_there r) (eqb r.base.0 r.firstdata.0) false ≡ false → Writes d out x left → Acknowledges w cap r stamp gap out x left
     unfolding acknowledge_answer room_answer
     answered d x left e t y =
@@ -163,14 +149,14 @@ module _ (w cap : ℕ) (r : Receiver) (stamp gap : ℕ) (out : List ℕ) (b : Bo
           y.1 ∙ ap (λ (o : List ℕ). left_of (room_answer o (length out)) o out) (sym e) ∙ ap (λ (n : ℕ). left_of n (acknowledgement_of w r stamp gap) out) a,
         )
 
-    pub acknowledge_all : (x : Written) (left : List ℕ) → r.end.0 ≤ r.base.0 → (r.base.0 ≡ r.firstdata.0 → ⊥)
+    pub acknowledge_all : (x : Result ℕ Refusal) (left : List ℕ) → r.end.0 ≤ r.base.0 → (r.base.0 ≡ r.firstdata.0 → ⊥)
         → Writes (datagram_of (ack_values r stamp gap) [] [] []) out x left → Acknowledges w cap r stamp gap out x left
     unfolding acknowledgement_of
     acknowledge_all x left l n y =
         let t = le-leb r.end.0 r.base.0 l in
         answered (datagram_of (ack_values r stamp gap) [] [] []) x left (rw t refl) (rw t (ne_eqb r.base.0 r.firstdata.0 n)) y
 
-    pub acknowledge_vector : (x : Written) (left : List ℕ) → r.base.0 < r.end.0
+    pub acknowledge_vector : (x : Result ℕ Refusal) (left : List ℕ) → r.base.0 < r.end.0
         → Writes (datagram_of (vector_values w r) [] (vector_of (states_of w r)) []) out x left → Acknowledges w cap r stamp gap out x left
     unfolding acknowledgement_of
     acknowledge_vector x left l y =

@@ -1,4 +1,6 @@
 -- The states from base on, and the vector written of them.
+use Rattle.common.specs.declared.Refusal.{Refusal}
+use Rattle.std.specs.Prelude.{Err, Ok, Result}
 use Prim.Native.Nat.{ℕ, zero, suc, ◌+◌, ◌-◌, ◌%◌, ◌≤◌, ◌<◌}
 use mathlib.Core.Bool.{Bool, true}
 use mathlib.Core.List.{List, [], ◌∷◌, ◌++◌}
@@ -11,8 +13,6 @@ use lib.ListN.{length, get_or, take, set, drop}
 use lib.Seq.{take-suc-set, take_at}
 use Rattle.common.specs.Put.{put_of, put_front, put_length}
 use Rattle.common.specs.Answer.{written_of, left_of}
-use Rattle.common.specs.declared.Written.{Written}
-use Rattle.common.specs.declared.Written.TheVariants.{Refused, Wrote}
 use Rattle.vector.specs.Rule.{vector_of, answer_of}
 use Rattle.vector.specs.Laws.{vector_short, write_done}
 use Rattle.receiver.specs.AcknowledgeLaws.{states_length}
@@ -57,7 +57,7 @@ pub record Coded (w : ℕ) (r : Receiver) (coded : List ℕ) (k : ℕ) : Type 0 
 -- The vector of a consistent record's states, which are at most w, fits w bytes: ss are the states, out the bytes before and coded those after,
 -- and x is what writing it answered.
 module _ (w : ℕ) (r : Receiver) (h : consistent_of w w r ≡ true) (ss : List Bool) (states : ss ≡ states_from w r r.base.0 (r.end.0 - r.base.0))
-    (x : Written) (out coded : List ℕ) (room : w ≤ length out) (answer : x ≡ written_of (answer_of ss (length out)) (vector_of ss))
+    (x : Result ℕ Refusal) (out coded : List ℕ) (room : w ≤ length out) (answer : x ≡ written_of (answer_of ss (length out)) (vector_of ss))
     (bytes : coded ≡ left_of (answer_of ss (length out)) (vector_of ss) out) where
   few : length ss ≤ w
   few = let e = ap length states ∙ states_length w r r.base.0 (r.end.0 - r.base.0) in omega (arith, e, (consistent_facts w w r h).end_near)
@@ -65,16 +65,16 @@ module _ (w : ℕ) (r : Receiver) (h : consistent_of w w r ≡ true) (ss : List 
   short : length (vector_of ss) ≤ w
   short = omega (arith, vector_short ss, few)
 
-  done : (Wrote (length (vector_of ss)) ≡ written_of (answer_of ss (length out)) (vector_of ss)) × (put_of out 0 (vector_of ss) ≡ left_of (answer_of ss (length out)) (vector_of ss) out)
+  done : (Ok (length (vector_of ss)) ≡ written_of (answer_of ss (length out)) (vector_of ss)) × (put_of out 0 (vector_of ss) ≡ left_of (answer_of ss (length out)) (vector_of ss) out)
   done = write_done ss out (omega (arith, room, short))
 
-  wrote : x ≡ Wrote (length (vector_of ss))
+  wrote : x ≡ Ok (length (vector_of ss))
   wrote = answer ∙ sym done.0
 
-  pub vector_never : {A : Type 0} (n : ℕ) → x ≡ Refused n → A
+  pub vector_never : {A : Type 0} (n : Refusal) → x ≡ Err n → A
   vector_never n e = let q = wrote in absurd (let z : ◌≡◌ {A = ℕ} 0 1 = cc in omega arith)
 
-  pub vector_coded : (k : ℕ) → x ≡ Wrote k → Coded w r coded k
+  pub vector_coded : (k : ℕ) → x ≡ Ok k → Coded w r coded k
   vector_coded k e =
       let q = wrote in
       let n : k ≡ length (vector_of ss) = cc in

@@ -6,10 +6,10 @@ ghost use Rattle.wire.specs.Write.{datagram_of};
 ghost use Rattle.receiver.specs.Consistent.{consistent_of};
 ghost use Rattle.receiver.specs.Acknowledge.{states_of, ack_values, vector_values};
 
-use common::Written;
+use common::Refusal;
 use numbers::DataNumber;
 use receiver::Receiver;
-use wire::{Ack, Delay, Values, Vector};
+use wire::{Ack, Values, Vector};
 
 // The flags of an ACK alone, and of a vector alone.
 const ACK_ALONE: u16 = 1;
@@ -17,7 +17,7 @@ const ACK_ALONE: u16 = 1;
 const ACKVEC_ALONE: u16 = 8;
 
 // Writes an ACK for the number before base.
-pub(crate) fn write_ack(r: Receiver, stamp: u32, gap: u8, out: &mut [u8]) -> Written
+pub(crate) fn write_ack(r: Receiver, stamp: u32, gap: u8, out: &mut [u8]) -> Result<usize, Refusal>
     requires { 1 ≤ r.base.0 }
     ensures answer { result ≡ written_of (room_answer (datagram_of (ack_values r stamp gap) [] [] []) (length out.old)) (datagram_of (ack_values r stamp gap) [] [] []) }
     ensures bytes { out.new
@@ -31,30 +31,15 @@ pub(crate) fn write_ack(r: Receiver, stamp: u32, gap: u8, out: &mut [u8]) -> Wri
             number,
             time: stamp % 16777216,
             gap,
-            count: 0,
-            scale: 0,
+            ..Ack::default()
         },
-        overhead: 0,
-        delay: Delay {
-            most: 0,
-            timeout: 0,
-        },
-        aoa: 0,
-        number: 0,
-        vector: Vector {
-            base: 0,
-            size: 0,
-            timed: false,
-            time: 0,
-            gap: 0,
-        },
-        channel: 0,
+        ..Values::default()
     };
     writer::write(values, b"", b"", b"", out)
 }
 
 // Writes a vector of the states from base to end - 1.
-pub(crate) fn write_vector(r: Receiver, out: &mut [u8]) -> Written
+pub(crate) fn write_vector(r: Receiver, out: &mut [u8]) -> Result<usize, Refusal>
     requires r_value { consistent_of 32 32 r ≡ true }
     requires base_lt_end { r.base.0 < r.end.0 }
     ensures answer { result ≡ written_of (room_answer (datagram_of (vector_values 32 r) [] (vector_of (states_of 32 r)) []) (length out.old))
@@ -66,43 +51,22 @@ pub(crate) fn write_vector(r: Receiver, out: &mut [u8]) -> Written
     let n = (r.end.0 - from) as usize;
     // The states of n numbers from base on; what follows them is not looked at.
     let mut states = [false; 32];
-    let mut i: usize = 0;
-    while i < n {
-        let at = window::data_place(DataNumber(from + i as u64));
-        let m = r.marks[at];
-        states[i] = m == 1;
-        i += 1;
+    for i in 0..n {
+        let at = window::place(DataNumber(from + i as u64));
+        states[i] = r.marks[at] == 1;
     }
     let mut coded = [0u8; 32];
-    let Written::Wrote(k) = coder::write(&states[..n], &mut coded) else {
-        return Written::Refused(14);
-    };
+    let k = coder::write(&states[..n], &mut coded)?;
     let base = (from % DataNumber::LAP) as u16;
     let values = Values {
         flags: ACKVEC_ALONE,
         logwindow: wire::LOGWINDOW,
-        ack: Ack {
-            number: 0,
-            time: 0,
-            gap: 0,
-            count: 0,
-            scale: 0,
-        },
-        overhead: 0,
-        delay: Delay {
-            most: 0,
-            timeout: 0,
-        },
-        aoa: 0,
-        number: 0,
         vector: Vector {
             base,
             size: k as u8,
-            timed: false,
-            time: 0,
-            gap: 0,
+            ..Vector::default()
         },
-        channel: 0,
+        ..Values::default()
     };
     writer::write(values, b"", &coded[..k], b"", out)
 }

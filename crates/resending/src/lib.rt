@@ -8,32 +8,22 @@ ghost use Rattle.sender.specs.Send.{lowest_waiting, resend_answer, resend_datagr
 ghost use Rattle.resending.specs.Lowest.{lowest_of};
 
 use carrying::Outcome;
-use common::Written;
+use common::Refusal;
 use numbers::ChannelNumber;
 use sender::Sender;
 
-// The waiting block of lowest channel number, if any waits.
-#[derive(Clone, Copy)]
-pub enum Lowest {
-    Nothing,
-    Block(ChannelNumber),
-}
-
-// Finds the waiting block of lowest channel number.
-fn lowest_waiting(s: Sender) -> Lowest
+// Finds the waiting block of lowest channel number, if any waits.
+fn lowest_waiting(s: Sender) -> Option<ChannelNumber>
     ensures { result ≡ lowest_of (lowest_waiting 32 s) }
 {
-    let next = s.channelnext.0;
-    let mut c = s.channellow.0;
-    while c < next {
-        let at = window::channel_place(ChannelNumber(c));
+    for c in s.channellow.0..s.channelnext.0 {
+        let at = window::place(ChannelNumber(c));
         let b = s.blocks[at];
         if b.state == sender::WAITING {
-            return Lowest::Block(ChannelNumber(c));
+            return Some(ChannelNumber(c));
         }
-        c += 1;
     }
-    Lowest::Nothing
+    None
 }
 
 // Sends the waiting block of lowest channel number again, from the sender's own store: writes its datagram, under a new data number, into out.
@@ -45,29 +35,29 @@ pub fn resend(s: Sender, store: &[u8], tick: u32, out: &mut [u8]) -> Outcome
 {
     if store.len() != window::STORE {
         return Outcome {
-            written: Written::Refused(13),
+            written: Err(Refusal::Unsound),
             sender: s,
         };
     }
     if !sender_checking::consistent(s) {
         return Outcome {
-            written: Written::Refused(13),
+            written: Err(Refusal::Unsound),
             sender: s,
         };
     }
-    let Lowest::Block(c) = lowest_waiting(s) else {
+    let Some(c) = lowest_waiting(s) else {
         return Outcome {
-            written: Written::Refused(11),
+            written: Err(Refusal::Nothing),
             sender: s,
         };
     };
     // The block's place is read from a copy of the places, so that the record is not copied.
-    let at = window::channel_place(c);
+    let at = window::place(c);
     let places = s.blocks;
     let b = places[at];
     if b.sends == sender::MOST_SENDS {
         return Outcome {
-            written: Written::Refused(22),
+            written: Err(Refusal::Spent),
             sender: s,
         };
     }
@@ -75,27 +65,27 @@ pub fn resend(s: Sender, store: &[u8], tick: u32, out: &mut [u8]) -> Outcome
     let next = s.next;
     if numbers::HIGHEST < next.0 {
         return Outcome {
-            written: Written::Refused(12),
+            written: Err(Refusal::UsedUp),
             sender: s,
         };
     }
     if sender::at_limit(low, next, s.logwindow) {
         return Outcome {
-            written: Written::Refused(9),
+            written: Err(Refusal::Full),
             sender: s,
         };
     }
     let length = b.length;
     let start = at * window::PLACE;
     match carrying::put_data(low, next, c, &store[start..start + length as usize], out) {
-        Written::Refused(n) => Outcome {
-            written: Written::Refused(n),
+        Err(refusal) => Outcome {
+            written: Err(refusal),
             sender: s,
         },
-        Written::Wrote(k) => {
+        Ok(k) => {
             let q = carrying::sent(s, tick, c, length, b.sends + 1, s.channelnext);
             Outcome {
-                written: Written::Wrote(k),
+                written: Ok(k),
                 sender: q,
             }
         }

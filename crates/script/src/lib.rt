@@ -3,52 +3,35 @@
 // give is 0, or no bytes.
 #![tactic(auto)]
 
-ghost use Rattle.std.specs.Prelude.{◌≤◌, ◌<◌, length, take, IfOk};
-ghost use Rattle.std.specs.Io.KnownBytes.{Consumes, IsAtEnd};
+ghost use Rattle.std.specs.Prelude.{◌≤◌, ◌<◌, length, IfSome};
 ghost use Rattle.std.specs.Iterator.{at_most};
 
 use std::io;
-use std::io::Read;
 
 // What stands between two words, behind a name, and at the end of a line.
-const BLANK: u8 = 32;
+const BLANK: u8 = b' ';
 
-const COLON: u8 = 58;
+const COLON: u8 = b':';
 
-const NEWLINE: u8 = 10;
+const NEWLINE: u8 = b'\n';
 
 // What stands before the number of bytes, where there are more than are given.
-const STAR: u8 = 42;
+const STAR: u8 = b'*';
 
-// Reads a script: fills text as far as the input goes, and answers how many bytes that is. What the text has no room for is left unread.
-pub fn read<R: Read>(input: &mut R, text: &mut [u8]) -> io::Result<usize>
-    ensures within { IfOk result (λ n. n ≤ length text.old) }
-    ensures bytes { IfOk result (λ n. Consumes (R.remaining input.old) (R.remaining input.new) (take n text.new)) }
-    ensures end { IfOk result (λ n. n < length text.old → IsAtEnd (R.remaining input.new)) }
-{
-    let mut n = 0;
-    while n < text.len() {
-        let more = input.read(&mut text[n..])?;
-        if more == 0 {
-            return Ok(n);
-        }
-        n += more;
-    }
-    Ok(n)
-}
+// The number up to which a further digit is read.
+const MOST: u64 = 10000000000;
 
 // Where a byte first stands from place from on, or the end of the text.
+// It stays beside `trace_words::find`, whose answer the definitions of trace name: no script stands on those, and bounds are enough here.
 pub fn find(text: &[u8], from: usize, x: u8) -> usize
     requires { from ≤ length text.now }
     ensures from { from ≤ result }
     ensures within { result ≤ length text.now }
 {
-    for i in from..text.len() {
-        if text[i] == x {
-            return i;
-        }
+    match text[from..].iter().position(|b| *b == x) {
+        Some(n) => from + n,
+        None => text.len(),
     }
-    text.len()
 }
 
 // Where the line that begins at this place ends.
@@ -80,58 +63,21 @@ impl<'a> Iterator for LinesLeft<'a> {
             return None;
         }
         let n = end(text, 0);
-        self.0 = if n < text.len() {
-            &text[n + 1..]
-        } else {
-            &text[n..]
-        };
+        self.0 = &text[text.len().min(n + 1)..];
         Some(&text[..n])
     }
-}
-
-// The place behind the next blank, or the end of the line.
-fn after(line: &[u8], from: usize) -> usize
-    requires { from < length line.now }
-    ensures from { from < result }
-    ensures within { result ≤ length line.now }
-{
-    let at = find(line, from, BLANK);
-    if at < line.len() {
-        return at + 1;
-    }
-    at
-}
-
-// The place behind a key that stands at this place; 0 where it does not.
-fn behind(line: &[u8], at: usize, key: &[u8]) -> usize
-    requires { at ≤ length line.now }
-    ensures { result ≤ length line.now }
-{
-    let n = key.len();
-    if line.len() - at < n {
-        return 0;
-    }
-    for i in 0..n {
-        if line[at + i] != key[i] {
-            return 0;
-        }
-    }
-    at + n
 }
 
 // Where the value of a key begins; the end of the line where the key is not given.
 pub fn value(line: &[u8], key: &[u8]) -> usize
     ensures { result ≤ length line.now }
 {
-    let mut at = find(line, 0, COLON);
-    while at < line.len() {
-        at = after(line, at);
-        let then = behind(line, at, key);
-        if 0 < then {
-            return then;
+    for (i, b) in line.iter().enumerate().skip(find(line, 0, COLON)) {
+        if *b == BLANK && line[i + 1..].starts_with(key) {
+            return i + 1 + key.len();
         }
     }
-    at
+    line.len()
 }
 
 // Writes a line's name, with its colon.
@@ -143,106 +89,76 @@ pub fn name(rt: &impl Print, line: &[u8]) -> io::Result<()> {
 
 // The first letter of the call, by which calls are told apart; 0 where a line has no call.
 pub fn call(line: &[u8]) -> u8 {
-    let colon = find(line, 0, COLON);
-    if line.len() <= colon {
-        return 0;
-    }
-    let at = after(line, colon);
-    if line.len() <= at {
-        return 0;
-    }
-    line[at]
+    let blank = find(line, find(line, 0, COLON), BLANK);
+    line.get(blank + 1).copied().unwrap_or(0)
 }
 
-// The number in decimal that stands at a place, as far as its digits go; at most some ten thousand millions.
-fn decimal(line: &[u8], from: usize) -> u64 {
-    let mut value: u64 = 0;
-    for d in line.iter().skip(from) {
-        if *d < 48 {
-            return value;
+// The number in decimal that a text begins with, as far as its digits go; at most some ten thousand millions.
+fn decimal(text: &[u8]) -> u64 {
+    let mut value = 0;
+    for d in text {
+        if !d.is_ascii_digit() || MOST < value {
+            break;
         }
-        if 57 < *d {
-            return value;
-        }
-        if 10000000000 < value {
-            return value;
-        }
-        value = value * 10 + (*d - 48) as u64;
+        value = value * 10 + (*d - b'0') as u64;
     }
     value
 }
 
 // The number under a key.
 pub fn number(line: &[u8], key: &[u8]) -> u64 {
-    decimal(line, value(line, key))
+    decimal(&line[value(line, key)..])
 }
 
-// How many bytes a line lends under a key, at most so many; the usual number where it says nothing.
-pub fn lent(line: &[u8], key: &[u8], usual: usize, most: usize) -> usize
-    requires { usual ≤ most }
-    ensures { result ≤ most }
+// The number under a key, of 8 bits.
+pub fn byte(line: &[u8], key: &[u8]) -> u8 {
+    (number(line, key) % 256) as u8
+}
+
+// The number under a key, of 16 bits.
+pub fn word(line: &[u8], key: &[u8]) -> u16 {
+    (number(line, key) % 65536) as u16
+}
+
+// The number under a key, of 32 bits.
+pub fn long(line: &[u8], key: &[u8]) -> u32 {
+    (number(line, key) % 4294967296) as u32
+}
+
+// The front of a buffer that a line lends under a key: as many bytes as it says, at most all; the usual number where it says nothing.
+pub fn lent<'a>(line: &[u8], key: &[u8], usual: usize, buffer: &'a mut [u8]) -> &'a mut [u8]
+    ensures { length result.now ≤ length buffer.old }
 {
-    let n = number(line, key);
-    if n == 0 {
-        return usual;
-    }
-    least(n, most)
+    let most = buffer.len();
+    let n = match number(line, key) {
+        0 => usual.min(most),
+        n => n.min(most as u64) as usize,
+    };
+    &mut buffer[..n]
 }
 
-// The value of a digit in hexadecimal; 16 for what is none.
-fn digit(b: u8) -> u8
-    ensures { result ≤ 16 }
+// The digit in hexadecimal that stands at a place.
+fn digit(text: &[u8], at: usize) -> Option<u8>
+    ensures { IfSome result (λ d. d < 16) }
 {
-    if b < 48 {
-        return 16;
+    match *text.get(at)? {
+        b @ b'0'..=b'9' => Some(b - b'0'),
+        b @ b'a'..=b'f' => Some(b - b'a' + 10),
+        _ => None,
     }
-    if b <= 57 {
-        return b - 48;
-    }
-    if b < 97 {
-        return 16;
-    }
-    if b <= 102 {
-        return b - 87;
-    }
-    16
 }
 
-// Puts the bytes in hexadecimal that stand at a place over out, as far as both go, and answers how many.
-fn decode(line: &[u8], from: usize, out: &mut [u8]) -> usize
+// Puts the bytes in hexadecimal that a text begins with over out, as far as both go, and answers how many.
+fn decode(text: &[u8], out: &mut [u8]) -> usize
     ensures { result ≤ length out.old }
 {
-    let mut at = from;
     for (i, b) in out.iter_mut().enumerate() {
-        if line.len() <= at {
+        let (Some(high), Some(low)) = (digit(text, 2 * i), digit(text, 2 * i + 1)) else {
             return i;
-        }
-        let high = digit(line[at]);
-        if 15 < high {
-            return i;
-        }
-        at += 1;
-        if line.len() <= at {
-            return i;
-        }
-        let low = digit(line[at]);
-        if 15 < low {
-            return i;
-        }
-        at += 1;
+        };
         *b = high * 16 + low;
     }
     out.len()
-}
-
-// So many bytes as a number says, at most as many as there are.
-fn least(n: u64, room: usize) -> usize
-    ensures { result ≤ room }
-{
-    if room as u64 <= n {
-        return room;
-    }
-    n as usize
 }
 
 // Puts the bytes under a key over the front of out, and answers how many. Behind those that are given stand bytes that differ by their place; a
@@ -251,11 +167,11 @@ pub fn bytes(line: &[u8], key: &[u8], out: &mut [u8]) -> usize
     ensures { result ≤ length out.old }
 {
     showing::content(out);
-    let at = value(line, key);
-    let n = decode(line, at, out);
-    let star = find(line, at, STAR);
-    if find(line, at, BLANK) <= star {
+    let text = &line[value(line, key)..];
+    let n = decode(text, out);
+    let star = find(text, 0, STAR);
+    if find(text, 0, BLANK) <= star {
         return n;
     }
-    least(decimal(line, star + 1), out.len())
+    decimal(&text[star + 1..]).min(out.len() as u64) as usize
 }

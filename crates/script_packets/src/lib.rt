@@ -3,66 +3,50 @@
 
 ghost use Rattle.std.specs.Prelude.{◌≤◌, length};
 
-use common::Written;
 use wire::{Ack, Delay, Values, Vector};
-
-// A number of 8 bits.
-pub fn byte(line: &[u8], key: &[u8]) -> u8 {
-    (script::number(line, key) % 256) as u8
-}
-
-// A number of 16 bits.
-pub fn word(line: &[u8], key: &[u8]) -> u16 {
-    (script::number(line, key) % 65536) as u16
-}
-
-// A number of 32 bits.
-pub fn long(line: &[u8], key: &[u8]) -> u32 {
-    (script::number(line, key) % 4294967296) as u32
-}
 
 // The ACK.
 fn ack(line: &[u8]) -> Ack {
     Ack {
-        number: word(line, b"ack="),
-        time: long(line, b"acktime="),
-        gap: byte(line, b"ackgap="),
-        count: byte(line, b"count="),
-        scale: byte(line, b"scale="),
+        number: script::word(line, b"ack="),
+        time: script::long(line, b"acktime="),
+        gap: script::byte(line, b"ackgap="),
+        count: script::byte(line, b"count="),
+        scale: script::byte(line, b"scale="),
     }
 }
 
 // The DelayAckInfo.
 fn delay(line: &[u8]) -> Delay {
     Delay {
-        most: byte(line, b"most="),
-        timeout: word(line, b"delay="),
+        most: script::byte(line, b"most="),
+        timeout: script::word(line, b"delay="),
     }
 }
 
 // The acknowledgement vector.
 fn vector(line: &[u8]) -> Vector {
     Vector {
-        base: word(line, b"base="),
-        size: byte(line, b"size="),
-        timed: byte(line, b"timed=") == 1,
-        time: long(line, b"time="),
-        gap: byte(line, b"gap="),
+        base: script::word(line, b"base="),
+        size: script::byte(line, b"size="),
+        timed: script::byte(line, b"timed=") == 1,
+        time: script::long(line, b"time="),
+        gap: script::byte(line, b"gap="),
     }
 }
 
 // The values of a packet.
 pub fn values(line: &[u8]) -> Values {
     Values {
-        flags: word(line, b"flags="),
-        logwindow: byte(line, b"logwindow="),
+        flags: script::word(line, b"flags="),
+        logwindow: script::byte(line, b"logwindow="),
         ack: ack(line),
-        overhead: byte(line, b"overhead="),
+        overhead: script::byte(line, b"overhead="),
         delay: delay(line),
-        aoa: word(line, b"aoa="),
-        number: word(line, b"data="),
+        aoa: script::word(line, b"aoa="),
+        number: script::word(line, b"data="),
         vector: vector(line),
-        channel: word(line, b"channel="),
+        channel: script::word(line, b"channel="),
     }
 }
 
@@ -75,11 +59,8 @@ pub fn make(line: &[u8], out: &mut [u8]) -> usize
     let mut block = [0u8; 1225];
     let n = script::bytes(line, b"block=", &mut block);
     let room = out.len();
-    let Written::Wrote(m) = writer::write(values(line), b"", &coded[..k], &block[..n], out) else {
-        return 0;
-    };
-    if room < m {
-        return 0;
+    match writer::write(values(line), b"", &coded[..k], &block[..n], out) {
+        Ok(m) if m <= room => m,
+        _ => 0,
     }
-    m
 }

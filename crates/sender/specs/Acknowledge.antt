@@ -1,16 +1,15 @@
 -- Acknowledgement: "ACK names every number up to SeqNum; a vector names its received ones. 8 exactly if a named number is not below next, or SeqNum or
 -- BaseSeqNum is below the first. .. Missing states past next do no harm. Named pending numbers become received, their blocks acknowledged. Lost stays lost."
-use Rattle.std.specs.Prelude.{ℕ, ◌+◌, Bool, true, false, cond, List, [], ◌∷◌, leb, ltb, eqb}
+use Rattle.std.specs.Prelude.{ℕ, ◌+◌, Bool, true, false, cond, List, [], ◌∷◌, leb, ltb, eqb, Err, Ok, Some, None}
 use Rattle.common.specs.Order.{test, first}
 use Rattle.numbers.specs.declared.Widened.{Widened}
 use Rattle.numbers.specs.declared.Widened.TheVariants.{At, Below, Unclear}
 use Rattle.numbers.specs.Widen.{widen_of}
 use Rattle.vector.specs.Says.{states_of, names}
 use Rattle.wire.specs.declared.Packet.{Packet}
-use Rattle.wire.specs.declared.Reading.{Reading}
-use Rattle.wire.specs.declared.Reading.TheVariants.{Refused, Dummy, Read}
 use Rattle.wire.specs.Flags.{ack_in, vector_in}
-use Rattle.wire.specs.Read.{number_of, read_of}
+use Rattle.common.specs.Answer.{no_of}
+use Rattle.wire.specs.Read.{read_of, Reading}
 use Rattle.wire.specs.Same.{coded_in}
 use Rattle.sender.specs.declared.Sender.{Sender}
 use Rattle.sender.specs.Record.{received, acknowledged, remembering}
@@ -31,16 +30,16 @@ names_unsent (t ∷ ts) n next = cond (cond t (leb next n) false) true (names_un
 -- an acknowledgement: nothing, every number up to one, or what a vector from a base names
 pub data Told : Type 0 where
   silent : Told
-  up_to : Widened → Told
-  listed : Widened → List ℕ → Told
+  up_to : Widened ℕ → Told
+  listed : Widened ℕ → List ℕ → Told
 
 -- "a named number is not below next, or SeqNum or BaseSeqNum is below the first"; and where SeqNum or BaseSeqNum is unclear (document 02, W7)
-abbrev pub up_to_answer : ℕ → ℕ → Widened → ℕ
+abbrev pub up_to_answer : ℕ → ℕ → Widened ℕ → ℕ
 up_to_answer firstdata next (At n) = first (test (ltb n firstdata) 8 ∷ test (leb next n) 8 ∷ [])
 up_to_answer firstdata next (Below m) = 8
 up_to_answer firstdata next Unclear = 8
 
-abbrev pub listed_answer : ℕ → ℕ → Widened → List ℕ → ℕ
+abbrev pub listed_answer : ℕ → ℕ → Widened ℕ → List ℕ → ℕ
 listed_answer firstdata next (At n) v = first (test (ltb n firstdata) 8 ∷ test (names_unsent (states_of v) n next) 8 ∷ [])
 listed_answer firstdata next (Below m) v = 8
 listed_answer firstdata next Unclear v = 8
@@ -51,12 +50,12 @@ told_answer s (up_to a) = up_to_answer s.firstdata.0 s.next.0 a
 told_answer s (listed a v) = listed_answer s.firstdata.0 s.next.0 a v
 
 -- does it name number n?
-abbrev pub names_up_to : Widened → ℕ → Bool
+abbrev pub names_up_to : Widened ℕ → ℕ → Bool
 names_up_to (At m) n = leb n m
 names_up_to (Below m) n = false
 names_up_to Unclear n = false
 
-abbrev pub names_listed : Widened → List ℕ → ℕ → Bool
+abbrev pub names_listed : Widened ℕ → List ℕ → ℕ → Bool
 names_listed (At m) v n = names v m n
 names_listed (Below m) v n = false
 names_listed Unclear v n = false
@@ -86,14 +85,14 @@ packet_of w s d p = cond (eqb (told_answer s (told_by s d p)) 0) (packet_told w 
 
 -- one datagram into the sender's half: 13, then reading, then 8; a dummy changes nothing
 unfoldable pub read_answer : Sender → List ℕ → Reading → ℕ
-read_answer s d (Refused n) = number_of (Refused n)
-read_answer s d Dummy = number_of Dummy
-read_answer s d (Read p) = told_answer s (told_by s d p)
+read_answer s d (Err n) = no_of n
+read_answer s d (Ok None) = 0
+read_answer s d (Ok (Some p)) = told_answer s (told_by s d p)
 
 unfoldable pub read_into : ℕ → Sender → List ℕ → Reading → Sender
-read_into w s d (Refused n) = s
-read_into w s d Dummy = s
-read_into w s d (Read p) = packet_of w s d p
+read_into w s d (Err n) = s
+read_into w s d (Ok None) = s
+read_into w s d (Ok (Some p)) = packet_of w s d p
 
 unfoldable pub acknowledge_answer : ℕ → ℕ → Sender → List ℕ → ℕ
 acknowledge_answer w cap s d = cond (consistent_of w cap s) (read_answer s d (read_of d)) 13

@@ -1,9 +1,8 @@
 -- What a new block or a resend writes reads back as exactly its values: the AckOfAcks, the data number, the channel number and the block, and nothing else.
 -- Last the same of the calls: of the bytes that an accepted call reports, as they stand in the lent output.
-use Rattle.std.specs.Prelude.{ℕ, ◌+◌, ◌≤◌, ◌<◌, true, false, List, [], ◌≡◌, refl, length, take, drop}
+use Rattle.std.specs.Prelude.{ℕ, ◌+◌, ◌≤◌, ◌<◌, true, false, List, [], ◌≡◌, refl, length, take, drop, Ok}
 use Rattle.std.proofs.Math.Option.{Option, none, some}
 use Rattle.std.proofs.Common.{sym, ◌∙◌, arith, length-append, length-take, le-ltb}
-use Rattle.common.specs.declared.Written.TheVariants.{Wrote}
 use Rattle.common.specs.Facts.{clash}
 use Rattle.common.specs.Order.{first}
 use Rattle.window.specs.Store.{store_place}
@@ -63,7 +62,7 @@ resend_reads_back w cap lw uw s room c h e =
 
 -- Of the calls. Where a new block is answered by k bytes written, the first k of the output, whatever was lent, read so.
 pub new_then_read : (w cap : ℕ) (s : State) (block out : List ℕ) (k : ℕ)
-    → written_of (new_answer w cap s block (length out)) (new_datagram s block) ≡ Wrote k
+    → written_of (new_answer w cap s block (length out)) (new_datagram s block) ≡ Ok k
     → Says (data_values s.sender.low.0 s.sender.next.0 s.sender.channelnext.0) [] [] block
     (take k (left_of (new_answer w cap s block (length out)) (new_datagram s block) out))
 new_then_read w cap s block out k e =
@@ -78,7 +77,7 @@ pub record Resent (w : ℕ) (s : State) (bytes : List ℕ) : Type 0 where
 
 -- And where a resend is.
 pub resend_then_read : (w cap : ℕ) → 0 < w → w ≤ cap → (s : State) (out : List ℕ) (k : ℕ)
-    → written_of (resend_answer w cap s (length out)) (resend_datagram w s) ≡ Wrote k
+    → written_of (resend_answer w cap s (length out)) (resend_datagram w s) ≡ Ok k
     → Resent w s (take k (left_of (resend_answer w cap s (length out)) (resend_datagram w s) out))
 resend_then_read w cap lw uw s out k e =
     let (accepted, same) = wrote _ _ out k e in

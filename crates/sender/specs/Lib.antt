@@ -24,3 +24,4 @@ pub mod SentFacts
 pub mod SendReady
 pub mod States
 pub mod Tells
+pub mod Known

@@ -1,15 +1,14 @@
 -- What is remembered of the peer's LogWindowSize (document 02, W5) after a datagram; and that the field changes nothing of what acknowledgements answer or turn: each law
 -- says that it passes a step by.
 use Prim.Native.Nat.{ℕ, zero, suc, ◌+◌}
-use Rattle.std.specs.Prelude.{Bool, List, ◌≡◌, eqb}
+use Rattle.std.specs.Prelude.{Bool, List, ◌≡◌, eqb, Err, Ok, Some, None}
 use Rattle.std.proofs.Math.Bool.{true, false, cond}
 use Rattle.std.proofs.Math.Path.{refl, ap}
 use Rattle.std.proofs.Common.{sym, ◌∙◌}
 use Rattle.common.specs.Facts.{clash}
+use Rattle.common.specs.Answer.{no_of}
 use Rattle.wire.specs.declared.Packet.{Packet}
-use Rattle.wire.specs.declared.Reading.{Reading}
-use Rattle.wire.specs.declared.Reading.TheVariants.{Refused, Dummy, Read}
-use Rattle.wire.specs.Read.{read_of}
+use Rattle.wire.specs.Read.{read_of, Reading}
 use Rattle.sender.specs.declared.Sender.{Sender}
 use Rattle.sender.specs.Record.{is_pending, remembering, number_at}
 use Rattle.sender.specs.Consistent.{number_ok, block_ok, carries, one_carrier, spare_number, spare_block, consistent_of}
@@ -18,9 +17,9 @@ use Rattle.sender.specs.Acknowledge.{acknowledging, acknowledged_of, Told, silen
 
 -- the LogWindowSize of what was read, or k: a dummy has none, nor has what does not read
 unfoldable pub size_in : Reading → ℕ → ℕ
-size_in (Refused n) k = k
-size_in Dummy k = k
-size_in (Read p) k = p.values.logwindow
+size_in (Err n) k = k
+size_in (Ok None) k = k
+size_in (Ok (Some p)) k = p.values.logwindow
 
 -- what is remembered after a datagram that was answered so, where k was before
 abbrev pub remembered_after : ℕ → List ℕ → ℕ → ℕ
@@ -28,9 +27,9 @@ remembered_after answer d k = cond (eqb answer 0) (size_in (read_of d) k) k
 
 -- was a packet of type 0 read?
 abbrev pub is_packet : Reading → Bool
-is_packet (Refused n) = false
-is_packet Dummy = false
-is_packet (Read p) = true
+is_packet (Err n) = false
+is_packet (Ok None) = false
+is_packet (Ok (Some p)) = true
 
 -- is a datagram that was answered so a packet of type 0, and accepted?
 abbrev pub is_heard : ℕ → List ℕ → Bool
@@ -38,7 +37,7 @@ is_heard answer d = cond (eqb answer 0) (is_packet (read_of d)) false
 
 -- "all carrying the same LogWindowSize": this datagram carries k, if it is a packet of type 0
 abbrev pub Sized : ℕ → List ℕ → Type 0
-Sized k d = (p : Packet) → read_of d ≡ Read p → p.values.logwindow ≡ k
+Sized k d = (p : Packet) → read_of d ≡ Ok (Some p) → p.values.logwindow ≡ k
 
 -- So k is remembered exactly if it is accepted.
 pub heard_sized : (k : ℕ) (d : List ℕ) → Sized k d → (answer j : ℕ) → remembered_after answer d j ≡ cond (is_heard answer d) k j
@@ -47,9 +46,9 @@ heard_sized k d sized answer j = go (read_of d) refl (eqb answer 0)
   where
     go : (x : Reading) → read_of d ≡ x → (b : Bool) → cond b (size_in x j) j ≡ cond (cond b (is_packet x) false) k j
     go x e false = refl
-    go (Refused n) e true = refl
-    go Dummy e true = refl
-    go (Read p) e true = sized p e
+    go (Err n) e true = refl
+    go (Ok None) e true = refl
+    go (Ok (Some p)) e true = sized p e
 
 -- Where it is not, nothing changes.
 pub unheard : (d : List ℕ) (answer k : ℕ) → is_heard answer d ≡ false → remembered_after answer d k ≡ k
@@ -58,9 +57,9 @@ unheard d answer k = go (read_of d) (eqb answer 0)
   where
     go : (x : Reading) (b : Bool) → cond b (is_packet x) false ≡ false → cond b (size_in x k) k ≡ k
     go x false h = refl
-    go (Refused n) true h = refl
-    go Dummy true h = refl
-    go (Read p) true h = clash true refl h
+    go (Err n) true h = refl
+    go (Ok None) true h = refl
+    go (Ok (Some p)) true h = clash true refl h
 
 pub either_way : {A : Type 0} (b : Bool) (x : A) → cond b x x ≡ x
 either_way true x = refl
@@ -111,9 +110,9 @@ turned_window w t g s = ap (λ (q : Sender). q.logwindow) (turned_passes s.logwi
 module _ (k w cap : ℕ) (s : Sender) (d : List ℕ) where
   read_answers : (x : Reading) → read_answer (remembering k s) d x ≡ read_answer s d x
   unfolding read_answer told_by
-  read_answers (Refused n) = refl
-  read_answers Dummy = refl
-  read_answers (Read p) = answer_remembering k s (told_by s d p)
+  read_answers (Err n) = refl
+  read_answers (Ok None) = refl
+  read_answers (Ok (Some p)) = answer_remembering k s (told_by s d p)
 
   pub acknowledge_answers : acknowledge_answer w cap (remembering k s) d ≡ acknowledge_answer w cap s d
   unfolding acknowledge_answer
@@ -127,9 +126,9 @@ module _ (k w cap : ℕ) (s : Sender) (d : List ℕ) where
 
   read_remembers : (x : Reading) → read_into w (remembering k s) d x ≡ remembering (cond (eqb (read_answer s d x) 0) (size_in x k) k) (read_into w s d x)
   unfolding read_into read_answer packet_of told_by size_in
-  read_remembers (Refused n) = ap (λ (j : ℕ). remembering j s) (sym (either_way (eqb n 0) k))
-  read_remembers Dummy = refl
-  read_remembers (Read p) =
+  read_remembers (Err n) = ap (λ (j : ℕ). remembering j s) (sym (either_way (eqb (no_of n) 0) k))
+  read_remembers (Ok None) = refl
+  read_remembers (Ok (Some p)) =
       ap (λ (n : ℕ). cond (eqb n 0) (remembering p.values.logwindow (told_of w (remembering k s) (told_by s d p))) (remembering k s))
       (answer_remembering k s (told_by s d p))
       ∙ packet_remembers p (told_by s d p) (eqb (told_answer s (told_by s d p)) 0)

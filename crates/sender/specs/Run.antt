@@ -1,5 +1,5 @@
 -- A list of datagrams, taken in turn; and what their acknowledgements come to.
-use Rattle.std.specs.Prelude.{ℕ, Bool, ◌||◌, ◌≡◌, eqb, ltb}
+use Rattle.std.specs.Prelude.{ℕ, Bool, ◌||◌, ◌≡◌, eqb, ltb, Err, Ok, Some, None}
 use Rattle.std.proofs.Math.Bool.{true, false, cond}
 use mathlib.Core.List.Memᴰ
 use mathlib.Core.List.{List, [], ◌∷◌}
@@ -9,9 +9,7 @@ use Rattle.std.proofs.Common.{sym, ◌∙◌, subst, eqb-true}
 use Rattle.common.specs.Facts.{bool, clash, same_bool, or_left, or_right, or_cases}
 use Rattle.window.specs.Members.{In}
 use Rattle.wire.specs.declared.Packet.{Packet}
-use Rattle.wire.specs.declared.Reading.{Reading}
-use Rattle.wire.specs.declared.Reading.TheVariants.{Refused, Dummy, Read}
-use Rattle.wire.specs.Read.{read_of}
+use Rattle.wire.specs.Read.{read_of, Reading}
 use Rattle.sender.specs.declared.Sender.{Sender}
 use Rattle.sender.specs.Record.{is_received, is_acknowledged, number_at, block_at}
 use Rattle.sender.specs.Acknowledge.{acknowledging, told_names, told_by, acknowledge_answer, acknowledge_of}
@@ -30,7 +28,7 @@ run w cap s (d ∷ ds) = run w cap (acknowledge_of w cap s d) ds
 -- datagram d reads, is accepted, and names number n
 pub record Names (w cap : ℕ) (s : Sender) (d : List ℕ) (n : ℕ) : Type 0 where
   pub packet : Packet
-  pub reads : read_of d ≡ Read packet
+  pub reads : read_of d ≡ Ok (Some packet)
   pub accepted : acknowledge_answer w cap s d ≡ 0
   pub names : told_names (told_by s d packet) n ≡ true
 
@@ -45,7 +43,7 @@ pub record Accepted (w cap : ℕ) (s : Sender) (ds : List (List ℕ)) : Type 0 w
   pub datagram : List ℕ
   pub listed : In datagram ds
   pub packet : Packet
-  pub reads : read_of datagram ≡ Read packet
+  pub reads : read_of datagram ≡ Ok (Some packet)
   pub accepted : acknowledge_answer w cap s datagram ≡ 0
 
 -- does one of the list pass the test?
@@ -114,9 +112,9 @@ module _ (w cap : ℕ) (s : Sender) (n : ℕ) where
       (bool (eqb (acknowledge_answer w cap s d) 0))
     where
       go : (r : Reading) → read_of d ≡ r → acknowledge_answer w cap s d ≡ 0 → told_names (tells s d r) n ≡ true → Names w cap s d n
-      go (Refused k) e a t = clash false t refl
-      go Dummy e a t = clash false t refl
-      go (Read p) e a t = record { packet = p; reads = e; accepted = a; names = t }
+      go (Err k) e a t = clash false t refl
+      go (Ok None) e a t = clash false t refl
+      go (Ok (Some p)) e a t = record { packet = p; reads = e; accepted = a; names = t }
 
   pub named_at : (ds : List (List ℕ)) → named_in w cap s ds n ≡ true → Named w cap s ds n
   unfolding named_in
@@ -142,9 +140,9 @@ module _ (w cap : ℕ) (s : Sender) where
       go d i (read_of d) refl p (eqb-true _ _ z)
     where
       go : (d : List ℕ) → In d ds → (r : Reading) → read_of d ≡ r → is_packet r ≡ true → acknowledge_answer w cap s d ≡ 0 → Accepted w cap s ds
-      go d i (Refused k) e t a = clash false t refl
-      go d i Dummy e t a = clash false t refl
-      go d i (Read p) e t a = record { datagram = d; listed = i; packet = p; reads = e; accepted = a }
+      go d i (Err k) e t a = clash false t refl
+      go d i (Ok None) e t a = clash false t refl
+      go d i (Ok (Some p)) e t a = record { datagram = d; listed = i; packet = p; reads = e; accepted = a }
 
   pub accepted_from : (ds : List (List ℕ)) → Accepted w cap s ds → accepted_in w cap s ds ≡ true
   unfolding accepted_in

@@ -1,16 +1,15 @@
 -- What one datagram does to the sender's half: it turns the numbers that it names to received, if it is accepted, and its LogWindowSize is remembered. What it names and
 -- whether it is accepted depend on the first number and on next alone, which no acknowledgement changes.
-use Rattle.std.specs.Prelude.{ℕ, Bool, List, ◌≡◌, refl, eqb}
+use Rattle.std.specs.Prelude.{ℕ, Bool, List, ◌≡◌, refl, eqb, Err, Ok, Some, None}
 use Rattle.std.proofs.Math.Bool.{true, false, cond}
 use Rattle.std.proofs.Common.{sym, ◌∙◌}
 use Rattle.std.proofs.Math.Path.{ap, subst}
 use Rattle.common.specs.Facts.{cond_none}
 use Rattle.numbers.specs.Widen.{widen_of}
+use Rattle.common.specs.Answer.{no_of}
 use Rattle.wire.specs.declared.Packet.{Packet}
-use Rattle.wire.specs.declared.Reading.{Reading}
-use Rattle.wire.specs.declared.Reading.TheVariants.{Refused, Dummy, Read}
 use Rattle.wire.specs.Flags.{ack_in, vector_in}
-use Rattle.wire.specs.Read.{read_of}
+use Rattle.wire.specs.Read.{read_of, Reading}
 use Rattle.wire.specs.Same.{coded_in}
 use Rattle.sender.specs.declared.Sender.{Sender}
 use Rattle.sender.specs.Record.{remembering}
@@ -23,9 +22,9 @@ use Rattle.sender.specs.TurnedFacts.{turned_facts}
 
 -- what a datagram tells: nothing, unless it reads
 unfoldable pub tells : Sender → List ℕ → Reading → Told
-tells s d (Refused n) = silent
-tells s d Dummy = silent
-tells s d (Read p) = told_by s d p
+tells s d (Err n) = silent
+tells s d (Ok None) = silent
+tells s d (Ok (Some p)) = told_by s d p
 
 -- does a datagram name number n, and is it accepted?
 unfoldable pub accepted_names : ℕ → ℕ → Sender → List ℕ → ℕ → Bool
@@ -46,9 +45,9 @@ told_alike q s a d p =
 
 tells_alike : (q s : Sender) → Alike q s → (d : List ℕ) (r : Reading) → tells q d r ≡ tells s d r
 unfolding tells
-tells_alike q s a d (Refused n) = refl
-tells_alike q s a d Dummy = refl
-tells_alike q s a d (Read p) = told_alike q s a d p
+tells_alike q s a d (Err n) = refl
+tells_alike q s a d (Ok None) = refl
+tells_alike q s a d (Ok (Some p)) = told_alike q s a d p
 
 judged_alike : (q s : Sender) → Alike q s → (m : Told) → told_answer q m ≡ told_answer s m
 unfolding told_answer
@@ -60,9 +59,9 @@ judged_alike q s a (listed x v) =
 
 answer_alike : (q s : Sender) → Alike q s → (d : List ℕ) (r : Reading) → read_answer q d r ≡ read_answer s d r
 unfolding read_answer
-answer_alike q s a d (Refused n) = refl
-answer_alike q s a d Dummy = refl
-answer_alike q s a d (Read p) = judged_alike q s a (told_by q d p) ∙ ap (told_answer s) (told_alike q s a d p)
+answer_alike q s a d (Err n) = refl
+answer_alike q s a d (Ok None) = refl
+answer_alike q s a d (Ok (Some p)) = judged_alike q s a (told_by q d p) ∙ ap (told_answer s) (told_alike q s a d p)
 
 -- Consistent senders with the same first number and next give the same answer, and take the same numbers as named.
 module _ (w cap : ℕ) (q s : Sender) (a : Alike q s) (hq : consistent_of w cap q ≡ true) (hs : consistent_of w cap s ≡ true) (d : List ℕ) where
@@ -114,9 +113,9 @@ module _ {w cap : ℕ} {s : Sender} (f : Facts w cap s) {chosen : ℕ → Bool} 
   read_turned : (d : List ℕ) (r : Reading)
       → Turned w cap acknowledging s (either_of chosen (λ n. cond (eqb (read_answer q d r) 0) (told_names (tells q d r) n) false)) (read_into w q d r)
   unfolding read_answer read_into packet_of tells told_names
-  read_turned d (Refused k) = as_before _ (λ n. cond_none (eqb k 0))
-  read_turned d Dummy = as_before _ (λ n. refl)
-  read_turned d (Read p) = packet_turned (told_by q d p) p.values.logwindow
+  read_turned d (Err k) = as_before _ (λ n. cond_none (eqb (no_of k) 0))
+  read_turned d (Ok None) = as_before _ (λ n. refl)
+  read_turned d (Ok (Some p)) = packet_turned (told_by q d p) p.values.logwindow
 
   -- One datagram more: the numbers that it names are chosen besides.
   pub datagram_turned : (d : List ℕ) → Turned w cap acknowledging s (either_of chosen (accepted_names w cap q d)) (acknowledge_of w cap q d)

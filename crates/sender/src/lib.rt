@@ -26,7 +26,8 @@ const OPENING_LOGWINDOW: u8 = 5;
 // 2 to this power is the window.
 const WINDOW_POWER: u8 = 5;
 
-// What a data number's place says of it.
+// What a data number's place says of it. These stay numbers: a host may hand in any record, in C too, and one with another state is refused with 13
+// (`consistent_of`), so a place's field holds any byte.
 pub const UNUSED: u8 = 0;
 
 pub const PENDING: u8 = 1;
@@ -35,7 +36,7 @@ pub const RECEIVED: u8 = 2;
 
 pub const LOST: u8 = 3;
 
-// What a block's place says of it.
+// What a block's place says of it: numbers for the same reason.
 pub const VACANT: u8 = 0;
 
 pub const INFLIGHT: u8 = 1;
@@ -126,10 +127,7 @@ pub fn opened(firstdata: u16, firstchannel: u16, timeout: u32) -> Sender
 fn limit(logwindow: u8) -> u64
     ensures { result ≡ limit_of 32 logwindow }
 {
-    if WINDOW_POWER <= logwindow {
-        return DataNumber::WINDOW;
-    }
-    1u64 << logwindow
+    1u64 << logwindow.min(WINDOW_POWER)
 }
 
 // Are as many data numbers in range as the peer's LogWindowSize allows, or more?
@@ -144,8 +142,5 @@ pub fn at_limit(low: DataNumber, next: DataNumber, logwindow: u8) -> bool
 pub fn passes(state: u8) -> bool
     ensures { result ≡ cond (eqb state 2) true (eqb state 3) }
 {
-    if state == RECEIVED {
-        return true;
-    }
-    state == LOST
+    matches!(state, RECEIVED | LOST)
 }

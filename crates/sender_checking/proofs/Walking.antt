@@ -3,12 +3,10 @@ use Prim.Native.Nat.{ℕ, ◌+◌, ◌-◌, ◌%◌, ◌≤◌, ◌<◌}
 use mathlib.Core.Bool.{Bool, true, false, not, ◌&&◌, ◌||◌}
 use mathlib.Core.List.{List}
 use mathlib.Core.Logic.{⊎_elim}
-use mathlib.Core.Path.{◌≡◌, refl, subst}
+use mathlib.Core.Path.{◌≡◌, refl, sym, ◌∙◌, ap, subst}
 use native.Mathlib.Omega.{arith}
-use lib.Dec.{ltb}
 use lib.ListN.{length, get_or, set, replicate}
 use lib.Seq.{set-get_or}
-use borrow.Author.Tests.{ltb-true, ltb-false}
 use Rattle.common.specs.Every.{all_below}
 use Rattle.common.specs.EveryLaws.{all_none, all_more}
 use Rattle.common.specs.Facts.{clash, bool}
@@ -26,48 +24,35 @@ pub record Walking (w : ℕ) (s : Sender) (marks : List Bool) (i : ℕ) : Type 0
   pub numbers : all_below (number_ok w s) i ≡ true
   pub marked : Marked w s marks i
 
--- so far: the walk goes on, or the record is not consistent
-pub record Going (w : ℕ) (s : Sender) (fits : Bool) (marks : List Bool) (i : ℕ) : Type 0 where
-  pub stops : fits ≡ false → false ≡ consistent_of w w s
-  pub goes : fits ≡ true → Walking w s marks i
+pub walk_none : (w : ℕ) (s : Sender) (i : ℕ) → i ≡ 0 → Walking w s (replicate w false) i
+walk_none w s i e =
+    subst (λ (k : ℕ). Walking w s (replicate w false) k) (sym e) (record { within = omega arith; numbers = all_none (number_ok w s); marked = mark_none w s })
 
-pub walk_none : (w : ℕ) (s : Sender) → Going w s true (replicate w false) 0
-walk_none w s =
+-- a number that does not fit ends the walk, and so does next
+pub walk_stopped : (w : ℕ) (s : Sender) (marks : List Bool) → false ≡ consistent_of w w s → Walked w s false marks
+walk_stopped w s marks h =
+    record {
+      stops = λ t. h;
+      numbers_sized = λ t. clash false t refl;
+      blocks_sized = λ t. clash false t refl;
+      numbers = λ t. clash false t refl;
+      marked = λ t. clash false t refl;
+    }
+
+pub walk_end : (w : ℕ) (s : Sender) (marks : List Bool) (n : ℕ) → s.next.0 ≤ n → Walking w s marks (n - s.low.0) → length s.numbers ≡ w → length s.blocks ≡ w → Walked w s true marks
+walk_end w s marks n l h ns bs =
+    let e : n - s.low.0 ≡ s.next.0 - s.low.0 = omega (arith, h.within) in
     record {
       stops = λ t. clash true refl t;
-      goes = λ t. record { within = omega arith; numbers = all_none (number_ok w s); marked = mark_none w s };
+      numbers_sized = λ t. ns;
+      blocks_sized = λ t. bs;
+      numbers = λ t. subst (λ (k : ℕ). all_below (number_ok w s) k ≡ true) e h.numbers;
+      marked = λ t. subst (λ (k : ℕ). Marked w s marks k) e h.marked;
     }
 
 both_first : (a b : Bool) → (a && b) ≡ true → a ≡ true
 both_first true b e = refl
 both_first false b e = e
-
-both_second : (a b : Bool) → (a && b) ≡ true → b ≡ true
-both_second true b e = e
-both_second false b e = clash false e refl
-
-second_fails : (a b : Bool) → (a && b) ≡ false → a ≡ true → b ≡ false
-second_fails true b e h = e
-second_fails false b e h = clash false h refl
-
-pub walk_within : (fits : Bool) (i n : ℕ) → (fits && ltb i n) ≡ true → i < n
-walk_within fits i n e = ltb-true i n (both_second fits (ltb i n) e)
-
-pub walk_end : (w : ℕ) (s : Sender) (fits : Bool) (marks : List Bool) (i : ℕ) → Going w s fits marks i → (fits && ltb i (s.next.0 - s.low.0)) ≡ false → length s.numbers ≡ w
-    → length s.blocks ≡ w → Walked w s fits marks
-walk_end w s fits marks i h l n b =
-    record {
-      stops = h.stops;
-      numbers_sized = λ t. n;
-      blocks_sized = λ t. b;
-      numbers = λ t. subst (λ (k : ℕ). all_below (number_ok w s) k ≡ true) (e t) (h.goes t).numbers;
-      marked = λ t. subst (λ (k : ℕ). Marked w s marks k) (e t) (h.goes t).marked;
-    }
-  where
-    e : fits ≡ true → i ≡ s.next.0 - s.low.0
-    e t =
-        let k = ltb-false i (s.next.0 - s.low.0) (second_fails fits _ l t) in
-        omega (arith, (h.goes t).within)
 
 abbrev RangesOf : ℕ → Sender → Type 0
 RangesOf w s = Ranges w s.low.0 s.next.0 s.firstchannel.0 s.channellow.0 s.channelnext.0
@@ -92,11 +77,11 @@ or_false : (y x : Bool) → x ≡ false → (y || x) ≡ y
 or_false true x h = refl
 or_false false x h = h
 
--- One number, at place m, whose block is at place k; r is whether it fits.
-module _ (w : ℕ) (s : Sender) (fits : Bool) (marks : List Bool) (i m k : ℕ) (r : Bool) (ranges : RangesOf w s) (test : (fits && ltb i (s.next.0 - s.low.0)) ≡ true)
-    (em : m ≡ (s.low.0 + i) % w) (ek : k ≡ (get_or s.numbers m no_number).channel.0 % w)
+-- Number n, at place m, whose block is at place k; r is whether it fits.
+module _ (w : ℕ) (s : Sender) (marks : List Bool) (n m k : ℕ) (r : Bool) (ranges : RangesOf w s) (least : s.low.0 ≤ n) (most : n < s.next.0) (place : m ≡ n % w)
+    (ek : k ≡ (get_or s.numbers m no_number).channel.0 % w)
     (er : r ≡ number_fits (get_or s.numbers m no_number) (is_in_flight (get_or s.blocks k no_block)) 0 1 s.firstchannel.0 s.channellow.0 s.channelnext.0)
-    (going : Going w s fits marks i) where
+    (h : Walking w s marks (n - s.low.0)) where
   abbrev pending : Bool
   pending = is_pending (get_or s.numbers m no_number)
 
@@ -106,11 +91,14 @@ module _ (w : ℕ) (s : Sender) (fits : Bool) (marks : List Bool) (i m k : ℕ) 
   abbrev goes_on : Bool
   goes_on = r && not (pending && marked)
 
-  l : i < s.next.0 - s.low.0
-  l = walk_within fits i _ test
+  abbrev i : ℕ
+  i = n - s.low.0
 
-  h : Walking w s marks i
-  h = going.goes (both_first fits _ test)
+  l : i < s.next.0 - s.low.0
+  l = omega arith
+
+  em : m ≡ (s.low.0 + i) % w
+  em = let e : n ≡ s.low.0 + i = omega arith in place ∙ ap (λ (x : ℕ). x % w) e
 
   ok : (t : Bool) → r ≡ t → number_ok w s i ≡ t
   ok t e = let q = l in number_judged_lem w s i r t (omega (arith, ranges.forth)) (rw (ek, em) at er) e
@@ -134,11 +122,12 @@ module _ (w : ℕ) (s : Sender) (fits : Bool) (marks : List Bool) (i m k : ℕ) 
       other : pending ≡ false → Marked w s (set marks k (marked || pending)) (i + 1)
       other p = rw (or_false marked pending p, set-get_or marks k false) (mark_other w s marks i h.marked (rw em at p))
 
-  pub walk_more : Going w s goes_on (set marks k (marked || pending)) (i + 1)
-  walk_more =
-      record {
-        stops = λ e. refusal r pending marked _ (λ t. bad_number w s i inside (ok false t)) twice e;
-        goes = λ e.
-            let q = l in
-            record { within = omega arith; numbers = all_more (number_ok w s) i h.numbers (ok true (both_first r _ e)); marked = mark e };
-      }
+  pub walk_stops : (any : List Bool) → goes_on ≡ false → Walked w s false any
+  walk_stops any e = walk_stopped w s any (refusal r pending marked _ (λ t. bad_number w s i inside (ok false t)) twice e)
+
+  pub walk_more : goes_on ≡ true → Walking w s (set marks k (marked || pending)) (n + 1 - s.low.0)
+  walk_more e =
+      let q = l in
+      let z : i + 1 ≡ n + 1 - s.low.0 = omega arith in
+      subst (λ (x : ℕ). Walking w s (set marks k (marked || pending)) x) z
+      (record { within = omega arith; numbers = all_more (number_ok w s) i h.numbers (ok true (both_first r _ e)); marked = mark e })

@@ -1,7 +1,7 @@
 // Is a sender's record consistent? One pass over the numbers in range, then one over the numbers' places and one over the blocks'.
 #![tactic(auto)]
 
-ghost use Rattle.std.specs.Prelude.{◌≡◌, not, ◌%◌, leb, get_or};
+ghost use Rattle.std.specs.Prelude.{[], is_some, unwrap_or, ◌≡◌, not, ◌%◌, leb, get_or};
 ghost use Rattle.common.specs.Every.{implies};
 ghost use Rattle.common.specs.EveryLaws.{raised};
 ghost use Rattle.sender.specs.Record.{is_acknowledged, number_passes, no_number, no_block};
@@ -15,35 +15,27 @@ use sender::{BlockPlace, NumberPlace, Sender};
 const LONGEST_SENT: u16 = sender::LONGEST_BLOCK as u16;
 
 // Is a range in order, its first within opening's range?
+#[tactic(auto, unfolding(sender::specs::Consistent::range_fits, common::specs::Every::every))]
 fn range_fits(first: u64, low: u64, next: u64) -> bool
     ensures { result ≡ range_fits 32 first low next }
 {
-    if numbers::FIRST < first {
-        return false;
-    }
-    if low < first {
-        return false;
-    }
-    if next < low {
-        return false;
-    }
-    if numbers::PAST < next {
-        return false;
-    }
-    next <= low + DataNumber::WINDOW
+    first <= numbers::FIRST
+        && first <= low
+        && low <= next
+        && next <= numbers::PAST
+        && next <= low + DataNumber::WINDOW
 }
 
 // Is the loss timeout within opening's range?
+#[tactic(auto, unfolding(sender::specs::Consistent::timeout_fits, common::specs::Every::every))]
 fn timeout_fits(timeout: u32) -> bool
     ensures { result ≡ timeout_fits timeout }
 {
-    if timeout < sender::SHORTEST_TIMEOUT {
-        return false;
-    }
-    timeout <= sender::LONGEST_TIMEOUT
+    sender::SHORTEST_TIMEOUT <= timeout && timeout <= sender::LONGEST_TIMEOUT
 }
 
 // Does the place of a number below next fit (say of 0, where next is 1)? `fly` is whether the block at its channel number's place is in flight.
+#[tactic(auto, unfolding(sender::specs::Consistent::number_fits, common::specs::Every::every))]
 fn used_fits(
     p: NumberPlace,
     fly: bool,
@@ -54,21 +46,9 @@ fn used_fits(
     ensures { result ≡ number_fits p fly 0 1 firstchannel.0 channellow.0 channelnext.0 }
 {
     if p.state == sender::PENDING {
-        if p.channel.0 < channellow.0 {
-            return false;
-        }
-        if channelnext.0 <= p.channel.0 {
-            return false;
-        }
-        return fly;
+        return channellow.0 <= p.channel.0 && p.channel.0 < channelnext.0 && fly;
     }
-    if !sender::passes(p.state) {
-        return false;
-    }
-    if p.channel.0 < firstchannel.0 {
-        return false;
-    }
-    p.channel.0 < channelnext.0
+    sender::passes(p.state) && firstchannel.0 <= p.channel.0 && p.channel.0 < channelnext.0
 }
 
 // Is a number's place not zero, though the number lies from next on? It lies `past` numbers past low, and `count` numbers from low
@@ -99,15 +79,12 @@ fn block_wrong(b: BlockPlace, single: bool, past: u8, count: u8) -> bool
 fn numbers_wrong(numbers: [NumberPlace; 32], low: DataNumber, next: u64) -> bool
     ensures { result ≡ raised (number_passes (get_or numbers (low.0 % 32) no_number)) (number_placed 32 numbers low.0 next) 32 }
 {
-    let lowat = window::data_place(low);
+    let lowat = window::place(low);
     let number = numbers[lowat];
     let count = window::count(low.0, next);
     let mut wrong = sender::passes(number.state);
-    let mut j: usize = 0;
-    while j < window::PLACES {
-        let p = numbers[j];
-        wrong = wrong | number_wrong(p, window::past(j, low.0), count);
-        j += 1;
+    for (j, p) in numbers.iter().enumerate() {
+        wrong = wrong | number_wrong(*p, window::past(j, low.0), count);
     }
     wrong
 }
@@ -117,28 +94,18 @@ fn numbers_wrong(numbers: [NumberPlace; 32], low: DataNumber, next: u64) -> bool
 fn blocks_wrong(blocks: [BlockPlace; 32], marks: [bool; 32], low: ChannelNumber, next: u64) -> bool
     ensures { result ≡ raised (is_acknowledged (get_or blocks (low.0 % 32) no_block)) (block_placed 32 blocks marks low.0 next) 32 }
 {
-    let lowat = window::channel_place(low);
+    let lowat = window::place(low);
     let block = blocks[lowat];
     let count = window::count(low.0, next);
     let mut wrong = block.state == sender::ACKNOWLEDGED;
-    let mut k: usize = 0;
-    while k < window::PLACES {
-        let b = blocks[k];
-        let single = marks[k];
-        wrong = wrong | block_wrong(b, single, window::past(k, low.0), count);
-        k += 1;
+    for (k, b) in blocks.iter().enumerate() {
+        wrong = wrong | block_wrong(*b, marks[k], window::past(k, low.0), count);
     }
     wrong
 }
 
-// What a walk over the numbers in range tells: whether they fit, and a mark for each block that a pending one carries.
-#[derive(Clone, Copy)]
-struct Walk {
-    fits: bool,
-    marks: [bool; 32],
-}
-
-// Walks over the numbers from low up to next, and stops after the first that does not fit. A second mark for one block refuses.
+// Walks over the numbers from low up to next: a mark for each block that a pending one carries, or none where a number does not fit. A second mark for one
+// block does not fit.
 fn walk_numbers(
     numbers: [NumberPlace; 32],
     blocks: [BlockPlace; 32],
@@ -147,27 +114,26 @@ fn walk_numbers(
     firstchannel: ChannelNumber,
     channellow: ChannelNumber,
     channelnext: ChannelNumber,
-) -> Walk
+) -> Option<[bool; 32]>
     requires { Ranges 32 low next firstchannel.0 channellow.0 channelnext.0 }
-    ensures { WalkedParts 32 numbers blocks low next firstchannel.0 channellow.0 channelnext.0 result.fits result.marks }
+    ensures { WalkedParts 32 numbers blocks low next firstchannel.0 channellow.0 channelnext.0 (is_some result) (unwrap_or result []) }
 {
-    let span = next - low;
     let mut marks = [false; 32];
-    let mut fits = true;
-    let mut i: u64 = 0;
-    while fits & (i < span) {
-        let numberat = window::data_place(DataNumber(low + i));
+    for n in low..next {
+        let numberat = window::place(DataNumber(n));
         let p = numbers[numberat];
-        let at = window::channel_place(p.channel);
+        let at = window::place(p.channel);
         let b = blocks[at];
         let fly = b.state == sender::INFLIGHT;
         let pending = p.state == sender::PENDING;
         let marked = marks[at];
-        fits = used_fits(p, fly, firstchannel, channellow, channelnext) & !(pending & marked);
+        let fits = used_fits(p, fly, firstchannel, channellow, channelnext) & !(pending & marked);
+        if !fits {
+            return None;
+        }
         marks[at] = marked | pending;
-        i += 1;
     }
-    Walk { fits, marks }
+    Some(marks)
 }
 
 // Is the record consistent? One walk over the numbers in range, and then all places in their own order.
@@ -181,7 +147,7 @@ pub fn consistent(s: Sender) -> bool
     }
     let numbers = s.numbers;
     let blocks = s.blocks;
-    let w = walk_numbers(
+    let Some(marks) = walk_numbers(
         numbers,
         blocks,
         s.low.0,
@@ -189,11 +155,9 @@ pub fn consistent(s: Sender) -> bool
         s.firstchannel,
         s.channellow,
         s.channelnext,
-    );
-    if !w.fits {
+    ) else {
         return false;
-    }
-    let marks = w.marks;
+    };
     let numberswrong = numbers_wrong(numbers, s.low, s.next.0);
     !(numberswrong | blocks_wrong(blocks, marks, s.channellow, s.channelnext.0))
 }

@@ -4,8 +4,9 @@
 // resend), `in` (a packet with these values arrives) and `sweep`.
 #![tactic(auto)]
 
+use common::Refusal;
 use numbers::{ChannelNumber, DataNumber};
-use sender::{BlockPlace, NumberPlace, Sender};
+use sender::{BlockPlace, Sender};
 use std::io;
 
 // A record with these numbers, and nothing sent.
@@ -13,33 +14,21 @@ fn stands(line: &[u8]) -> Sender {
     let next = DataNumber(script::number(line, b"next="));
     let channelnext = ChannelNumber(script::number(line, b"channelnext="));
     Sender {
-        firstdata: DataNumber(0),
-        firstchannel: ChannelNumber(0),
-        timeout: 300,
-        logwindow: script_packets::byte(line, b"logwindow="),
+        logwindow: script::byte(line, b"logwindow="),
         low: next,
         next,
         channellow: channelnext,
         channelnext,
-        numbers: [NumberPlace {
-            channel: ChannelNumber(0),
-            tick: 0,
-            state: 0,
-        }; 32],
-        blocks: [BlockPlace {
-            state: 0,
-            sends: 0,
-            length: 0,
-        }; 32],
+        ..sender::opened(0, 0, 300)
     }
 }
 
-// A block's place.
-fn placed(state: u8, sends: u8, length: u16) -> BlockPlace {
+// A block of one byte that waits, and was sent so many times.
+fn waits(sends: u8) -> BlockPlace {
     BlockPlace {
-        state,
+        state: sender::WAITING,
         sends,
-        length,
+        length: 1,
     }
 }
 
@@ -47,22 +36,20 @@ fn placed(state: u8, sends: u8, length: u16) -> BlockPlace {
 // behind them is not in use, and has this count.
 fn waiting(line: &[u8]) -> Sender {
     let mut s = stands(line);
-    let low = ChannelNumber(0);
-    let next = ChannelNumber(2);
-    s.channellow = low;
-    s.channelnext = next;
-    s.blocks[0] = placed(2, script_packets::byte(line, b"sends="), 1);
-    s.blocks[1] = placed(2, 1, 1);
-    s.blocks[2] = placed(0, script_packets::byte(line, b"unused="), 0);
+    s.channellow = ChannelNumber(0);
+    s.channelnext = ChannelNumber(2);
+    s.blocks[0] = waits(script::byte(line, b"sends="));
+    s.blocks[1] = waits(1);
+    s.blocks[2].sends = script::byte(line, b"unused=");
     s
 }
 
 // A fresh record.
 fn opened(line: &[u8]) -> Sender {
     sender::opened(
-        script_packets::word(line, b"firstdata="),
-        script_packets::word(line, b"firstchannel="),
-        script_packets::long(line, b"timeout="),
+        script::word(line, b"firstdata="),
+        script::word(line, b"firstchannel="),
+        script::long(line, b"timeout="),
     )
 }
 
@@ -91,39 +78,30 @@ fn sent(
 ) -> io::Result<Sender> {
     showing::fill(out);
     let got = sending::send(s, store, tick, block, out);
-    let q = got.sender;
-    let w = got.written;
-    showing::answered(rt, w, out)?;
-    left(rt, q, store)?;
-    Ok(q)
+    showing::answered(rt, got.written, out)?;
+    left(rt, got.sender, store)?;
+    Ok(got.sender)
 }
 
 // A new block, with room for so many bytes, and with the store or a part of it.
 fn sends(rt: &impl Print, s: Sender, store: &mut [u8], line: &[u8]) -> io::Result<Sender> {
     let mut out = [0u8; 1233];
     let mut block = [0u8; 1224];
-    let room = script::lent(line, b"room=", 0, 1233);
-    let size = script::lent(line, b"store=", window::STORE, 39201);
     let n = script::bytes(line, b"block=", &mut block);
-    let tick = script_packets::long(line, b"tick=");
-    if store.len() < size {
-        return Ok(s);
-    }
     sent(
         rt,
         s,
-        &mut store[..size],
-        tick,
+        script::lent(line, b"store=", window::STORE, store),
+        script::long(line, b"tick="),
         &block[..n],
-        &mut out[..room],
+        script::lent(line, b"room=", 0, &mut out),
     )
 }
 
 // One of many blocks.
 fn adds(s: Sender, store: &mut [u8], tick: u32) -> Sender {
     let mut out = [0u8; 64];
-    let got = sending::send(s, store, tick, b"a", &mut out);
-    got.sender
+    sending::send(s, store, tick, b"a", &mut out).sender
 }
 
 // So many new blocks of one byte, at this tick.
@@ -138,15 +116,11 @@ fn added(rt: &impl Print, s: Sender, store: &mut [u8], tick: u32, n: u64) -> io:
 
 // So many new blocks of one byte, with the store or a part of it.
 fn many(rt: &impl Print, s: Sender, store: &mut [u8], line: &[u8]) -> io::Result<Sender> {
-    let size = script::lent(line, b"store=", window::STORE, 39201);
-    if store.len() < size {
-        return Ok(s);
-    }
     added(
         rt,
         s,
-        &mut store[..size],
-        script_packets::long(line, b"tick="),
+        script::lent(line, b"store=", window::STORE, store),
+        script::long(line, b"tick="),
         script::number(line, b"count="),
     )
 }
@@ -161,30 +135,27 @@ fn resent(
 ) -> io::Result<Sender> {
     showing::fill(out);
     let got = resending::resend(s, store, tick, out);
-    let q = got.sender;
-    let w = got.written;
-    showing::answered(rt, w, out)?;
-    left(rt, q, store)?;
-    Ok(q)
+    showing::answered(rt, got.written, out)?;
+    left(rt, got.sender, store)?;
+    Ok(got.sender)
 }
 
 // A resend, with room for so many bytes.
-fn resends(rt: &impl Print, s: Sender, store: &[u8], line: &[u8]) -> io::Result<Sender> {
+fn resends(rt: &impl Print, s: Sender, store: &mut [u8], line: &[u8]) -> io::Result<Sender> {
     let mut out = [0u8; 1233];
-    let room = script::lent(line, b"room=", 0, 1233);
-    let size = script::lent(line, b"store=", window::STORE, 39201);
-    let tick = script_packets::long(line, b"tick=");
-    if store.len() < size {
-        return Ok(s);
-    }
-    resent(rt, s, &store[..size], tick, &mut out[..room])
+    resent(
+        rt,
+        s,
+        script::lent(line, b"store=", window::STORE, store),
+        script::long(line, b"tick="),
+        script::lent(line, b"room=", 0, &mut out),
+    )
 }
 
 // The answer of a call that is lent no store, and the record.
-fn told(rt: &impl Print, answer: u8, s: Sender) -> io::Result<()> {
-    showing::number(rt, b" answer=", answer as u64)?;
-    showing_records::sender(rt, s)?;
-    rt.write_all(b"\n")
+fn told<T: Drop>(rt: &impl Print, answer: Result<T, Refusal>, s: Sender) -> io::Result<Sender> {
+    showing::number(rt, b" answer=", common::number(answer) as u64)?;
+    shown(rt, s)
 }
 
 // A packet with an acknowledgement arrives.
@@ -192,60 +163,38 @@ fn arrives(rt: &impl Print, s: Sender, line: &[u8]) -> io::Result<Sender> {
     let mut d = [0u8; 1232];
     let n = script_packets::make(line, &mut d);
     let got = acknowledging::acknowledge(s, &d[..n]);
-    let q = got.sender;
-    told(rt, got.answer, q)?;
-    Ok(q)
+    told(rt, got.answer, got.sender)
 }
 
 // A sweep.
 fn sweeps(rt: &impl Print, s: Sender, line: &[u8]) -> io::Result<Sender> {
-    let got = sweeping::sweep(s, script_packets::long(line, b"tick="));
-    let q = got.sender;
-    showing::number(rt, b" lost=", got.lost as u64)?;
-    told(rt, got.answer, q)?;
-    Ok(q)
+    let got = sweeping::sweep(s, script::long(line, b"tick="));
+    showing::number(rt, b" lost=", got.lost.unwrap_or(0) as u64)?;
+    told(rt, got.lost, got.sender)
 }
 
 // One line of the script.
 fn run(rt: &impl Print, s: Sender, store: &mut [u8], line: &[u8]) -> io::Result<Sender> {
     script::name(rt, line)?;
-    let call = script::call(line);
-    if call == b'o' {
-        return shown(rt, opened(line));
+    match script::call(line) {
+        b'o' => shown(rt, opened(line)),
+        b'r' => shown(rt, stands(line)),
+        b'w' => shown(rt, waiting(line)),
+        b'n' => sends(rt, s, store, line),
+        b'm' => many(rt, s, store, line),
+        b'a' => resends(rt, s, store, line),
+        b'i' => arrives(rt, s, line),
+        _ => sweeps(rt, s, line),
     }
-    if call == b'r' {
-        return shown(rt, stands(line));
-    }
-    if call == b'w' {
-        return shown(rt, waiting(line));
-    }
-    if call == b'n' {
-        return sends(rt, s, store, line);
-    }
-    if call == b'm' {
-        return many(rt, s, store, line);
-    }
-    if call == b'a' {
-        return resends(rt, s, store, line);
-    }
-    if call == b'i' {
-        return arrives(rt, s, line);
-    }
-    sweeps(rt, s, line)
-}
-
-// Every line of the script.
-fn runs(rt: &impl Print, text: &[u8], store: &mut [u8]) -> io::Result<()> {
-    let mut s = sender::opened(0, 0, 300);
-    for line in script::lines(text) {
-        s = run(rt, s, store, line)?;
-    }
-    Ok(())
 }
 
 fn main(rt: HostRuntime) -> io::Result<()> {
     let mut store = [0x55u8; 39201];
     let mut text = [0u8; 24576];
-    let n = script::read(&mut rt.stdin(), &mut text)?;
-    runs(&rt, &text[..n], &mut store)
+    let n = input::read(&mut rt.stdin(), &mut text)?;
+    let mut s = sender::opened(0, 0, 300);
+    for line in script::lines(&text[..n]) {
+        s = run(&rt, s, &mut store, line)?;
+    }
+    Ok(())
 }

@@ -8,7 +8,7 @@ ghost use Rattle.sender.specs.Send.{at_limit_of, new_answer, new_datagram, new_o
 ghost use Rattle.sender.specs.Record.{state};
 
 use carrying::Outcome;
-use common::Written;
+use common::Refusal;
 use numbers::{ChannelNumber, DataNumber};
 use sender::Sender;
 
@@ -49,13 +49,13 @@ pub fn send(s: Sender, store: &mut [u8], tick: u32, block: &[u8], out: &mut [u8]
 {
     if store.len() != window::STORE {
         return Outcome {
-            written: Written::Refused(13),
+            written: Err(Refusal::Unsound),
             sender: s,
         };
     }
     if !sender_checking::consistent(s) {
         return Outcome {
-            written: Written::Refused(13),
+            written: Err(Refusal::Unsound),
             sender: s,
         };
     }
@@ -65,29 +65,29 @@ pub fn send(s: Sender, store: &mut [u8], tick: u32, block: &[u8], out: &mut [u8]
     let channel = s.channelnext;
     if sender::LONGEST_BLOCK < block.len() {
         return Outcome {
-            written: Written::Refused(10),
+            written: Err(Refusal::TooWide),
             sender: s,
         };
     }
     if used_up(next, channel) {
         return Outcome {
-            written: Written::Refused(12),
+            written: Err(Refusal::UsedUp),
             sender: s,
         };
     }
     if full(low, next, s.logwindow, channellow, channel) {
         return Outcome {
-            written: Written::Refused(9),
+            written: Err(Refusal::Full),
             sender: s,
         };
     }
     match carrying::put_data(low, next, channel, block, out) {
-        Written::Refused(n) => Outcome {
-            written: Written::Refused(n),
+        Err(refusal) => Outcome {
+            written: Err(refusal),
             sender: s,
         },
-        Written::Wrote(k) => {
-            let at = window::channel_place(channel);
+        Ok(k) => {
+            let at = window::place(channel);
             common::put(store, at * window::PLACE, block);
             let q = carrying::sent(
                 s,
@@ -98,7 +98,7 @@ pub fn send(s: Sender, store: &mut [u8], tick: u32, block: &[u8], out: &mut [u8]
                 ChannelNumber(channel.0 + 1),
             );
             Outcome {
-                written: Written::Wrote(k),
+                written: Ok(k),
                 sender: q,
             }
         }

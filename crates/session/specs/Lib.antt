@@ -6,3 +6,4 @@ pub mod Open
 pub mod List
 pub mod Lowest
 pub mod Shapes
+pub mod Known

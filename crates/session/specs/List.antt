@@ -1,10 +1,9 @@
 -- The list of sessions: what a call answers, and what the list is afterwards. A call other than opening looks at one place.
 use Rattle.std.specs.Prelude.{ℕ, suc, cond, List, [], ◌∷◌, length, get_or, set}
 use Rattle.session.specs.declared.Session.{Session}
-use Rattle.session.specs.declared.Opening.{Opening}
 use Rattle.session.specs.Place.{blank, place_of, free_of}
 use Rattle.session.specs.Call.{Asked, Made, made_of}
-use Rattle.session.specs.Open.{opening_of}
+use Rattle.session.specs.Open.{Opening, opening_of}
 
 -- by number and token: what becomes of the session at the number's place
 abbrev pub outcome_of : List Session → ℕ → ℕ → List ℕ → Asked → Made

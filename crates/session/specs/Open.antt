@@ -3,7 +3,6 @@ use Rattle.std.specs.Prelude.{ℕ, ◌+◌, cond, not, List, [], ◌∷◌, eqb,
 use Rattle.common.specs.Order.{Test, test, first}
 use Rattle.endpoint.specs.Open.{opened_of}
 use Rattle.session.specs.declared.Session.{Session}
-use Rattle.session.specs.declared.Opening.{Opening}
 use Rattle.session.specs.Place.{places}
 
 -- before the endpoint's own, on a list of so many places whose lowest free place is at; past the end where none is free
@@ -16,6 +15,12 @@ open_tests count at token =
 
 unfoldable pub open_answer : ℕ → ℕ → ℕ → ℕ
 open_answer count at token = first (open_tests count at token)
+
+-- what opening makes of a place: the number that answers, the session's number, 0 where opening is refused, and the session that stands at the place afterwards
+pub record Opening : Type 0 where
+  pub answer : ℕ
+  pub number : ℕ
+  pub session : Session
 
 -- refused: nothing changes, and no number is given
 abbrev pub refused_opening : ℕ → Session → Opening

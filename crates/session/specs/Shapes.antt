@@ -1,23 +1,35 @@
--- What becomes of a session, in the forms in which the functions give it.
-use Rattle.common.specs.Answer.{written_of}
+-- What becomes of a session, in the forms in which the functions give it: the answer tells the number, and where it is 0 what else there is to tell.
+use Rattle.std.specs.Prelude.{ℕ}
+use Rattle.common.specs.Answer.{settled, answered_of, written_of}
 use Rattle.session.specs.declared.Reached.{Reached}
-use Rattle.session.specs.declared.Filled.{Filled}
-use Rattle.session.specs.declared.Counted.{Counted}
-use Rattle.session.specs.declared.Opening.{Opening}
-use Rattle.session.specs.declared.Granted.{Granted}
-use Rattle.session.specs.declared.Tally.{Tally}
 use Rattle.session.specs.Call.{Made}
+use Rattle.session.specs.Open.{Opening}
 
-abbrev pub reached_by : Made → Reached
-reached_by m = record { answer = m.answer; session = m.session }
+-- of a call that writes nothing
+abbrev pub reached_by : Made → Reached Unit
+reached_by m = record { answer = answered_of m.answer; session = m.session }
 
-abbrev pub filled_by : Made → Filled
-filled_by m = record { written = written_of m.answer m.bytes; session = m.session }
+-- of a call that writes: how many bytes
+abbrev pub filled_by : Made → Reached ℕ
+filled_by m = record { answer = written_of m.answer m.bytes; session = m.session }
 
-abbrev pub counted_by : Made → Counted
-counted_by m = record { answer = m.answer; lost = m.lost; session = m.session }
+-- of a sweep: how many became lost
+abbrev pub counted_by : Made → Reached ℕ
+counted_by m = record { answer = settled m.answer m.lost; session = m.session }
 
--- without the session: what the caller is answered
+-- of an opening: the session's number
+abbrev pub opened_by : Opening → Reached ℕ
+opened_by o = record { answer = settled o.answer o.number; session = o.session }
+
+-- without the session: the two numbers of a sweep and of an opening
+pub record Tally : Type 0 where
+  pub answer : ℕ
+  pub lost : ℕ
+
+pub record Granted : Type 0 where
+  pub answer : ℕ
+  pub number : ℕ
+
 abbrev pub tally_by : Made → Tally
 tally_by m = record { answer = m.answer; lost = m.lost }
 

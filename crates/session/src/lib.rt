@@ -4,9 +4,10 @@
 #![tactic(auto)]
 
 ghost use Rattle.std.specs.Prelude.{◌≡◌};
+ghost use Rattle.common.specs.Answer.{answered_of};
 ghost use Rattle.session.specs.Place.{blank, place_of, free_of, place_answer};
 
-use common::Written;
+use common::Refusal;
 use receiver::Receiver;
 use sender::Sender;
 
@@ -28,62 +29,14 @@ pub struct Session {
     pub receiver: Receiver,
 }
 
-// What a call that writes nothing makes of a session.
+// What a call makes of a session. T is what an accepted call tells its caller: nothing, how many bytes it wrote, how many became lost, or the
+// session's number.
 #[derive(Clone, Copy)]
-pub struct Reached {
-    // The number of documents 01 and 02.
-    pub answer: u8,
+pub struct Reached<T> {
+    // The refusal, or what is told.
+    pub answer: Result<T, Refusal>,
     // The session that stands at its place afterwards.
     pub session: Session,
-}
-
-// What a call that writes makes of a session.
-#[derive(Clone, Copy)]
-pub struct Filled {
-    // The refusal, or how many bytes were written.
-    pub written: Written,
-    // The session that stands at its place afterwards.
-    pub session: Session,
-}
-
-// What a sweep makes of a session.
-#[derive(Clone, Copy)]
-pub struct Counted {
-    // The number of documents 01 and 02.
-    pub answer: u8,
-    // How many became lost.
-    pub lost: u32,
-    // The session that stands at its place afterwards.
-    pub session: Session,
-}
-
-// What opening makes of a place.
-#[derive(Clone, Copy)]
-pub struct Opening {
-    // The number of documents 01 and 02.
-    pub answer: u8,
-    // The session's number; 0 where opening is refused.
-    pub number: u64,
-    // The session that stands at the place afterwards.
-    pub session: Session,
-}
-
-// What opening answers its caller.
-#[derive(Clone, Copy)]
-pub struct Granted {
-    // The number of documents 01 and 02.
-    pub answer: u8,
-    // The session's number; 0 where opening is refused.
-    pub number: u64,
-}
-
-// What a sweep answers its caller.
-#[derive(Clone, Copy)]
-pub struct Tally {
-    // The number of documents 01 and 02.
-    pub answer: u8,
-    // How many became lost.
-    pub lost: u32,
 }
 
 // A free place: zero throughout.
@@ -108,37 +61,30 @@ pub fn is_free(s: Session) -> bool
 }
 
 // The place of a session's number, counted from 0; past the end where the number is outside 1 to 40.
+#[tactic(auto, unfolding(crate::specs::Place::place_of))]
 pub fn place_of(n: u64) -> usize
     ensures { result ≡ place_of n }
 {
-    if n < 1 {
-        return PLACES;
+    match n {
+        1..=HIGHEST => (n - 1) as usize,
+        _ => PLACES,
     }
-    if HIGHEST < n {
-        return PLACES;
-    }
-    (n - 1) as usize
 }
 
-// The refusal that comes before all others, for a list of so many places, a number, a caller's token, and the token at the number's place: 13, 23, 24, in
-// this order; 0 where there is none.
-pub fn place_answer(count: usize, number: u64, token: u64, owner: u64) -> u8
-    ensures { result ≡ place_answer count number token owner }
+// Judges what comes before all else, for a list of so many places, a number, a caller's token, and the token at the number's place: refused with
+// 13, 23, 24, in this order.
+#[tactic(auto, unfolding(crate::specs::Place::place_answer, common::specs::Order::first, common::specs::Answer::answered_of, common::specs::Answer::refusal_of))]
+pub fn place_answer(count: usize, number: u64, token: u64, owner: u64) -> Result<(), Refusal>
+    ensures { result ≡ answered_of (place_answer count number token owner) }
 {
     if count != PLACES {
-        return 13;
+        return Err(Refusal::Unsound);
     }
-    if number < 1 {
-        return 23;
+    if number < 1 || HIGHEST < number {
+        return Err(Refusal::NoPlace);
     }
-    if HIGHEST < number {
-        return 23;
+    if token == 0 || owner != token {
+        return Err(Refusal::NoSession);
     }
-    if token == 0 {
-        return 24;
-    }
-    if owner != token {
-        return 24;
-    }
-    0
+    Ok(())
 }

@@ -2,14 +2,34 @@
 #![tactic(auto)]
 
 ghost use Rattle.std.specs.Prelude.{◌≡◌, []};
+ghost use Rattle.common.specs.Answer.{answered_of};
 ghost use Rattle.session.specs.Call.{closes, made_of};
-ghost use Rattle.session.specs.Open.{opening_of};
-ghost use Rattle.session.specs.Shapes.{reached_by};
+ghost use Rattle.session.specs.Open.{open_answer, opening_of};
+ghost use Rattle.session.specs.Shapes.{reached_by, opened_by};
 
-use session::{Opening, Reached, Session};
+use common::Refusal;
+use session::{Reached, Session};
 
-// Opens a session for the owner of a token, on a list of count places of which the lowest free one is at and holds old. What old holds is not looked at.
-// Refused with 13, 24, 25, 15, in this order.
+// Judges an opening on a list of count places of which the lowest free one is at, before the endpoint's own refusal: refused with 13, 24, 25, in
+// this order.
+#[tactic(auto, unfolding(session::specs::Open::open_answer, common::specs::Order::first, common::specs::Answer::answered_of, common::specs::Answer::refusal_of))]
+fn judge(count: usize, at: usize, token: u64) -> Result<(), Refusal>
+    ensures { result ≡ answered_of (open_answer count at token) }
+{
+    if count != session::PLACES {
+        return Err(Refusal::Unsound);
+    }
+    if token == 0 {
+        return Err(Refusal::NoSession);
+    }
+    if session::PLACES <= at {
+        return Err(Refusal::NoFree);
+    }
+    Ok(())
+}
+
+// Opens a session for the owner of a token, on a list of count places of which the lowest free one is at and holds old, and tells its number. What
+// old holds is not looked at. Refused with 13, 24, 25, 15, in this order.
 pub fn open(
     count: usize,
     at: usize,
@@ -18,63 +38,45 @@ pub fn open(
     firstdata: u32,
     firstchannel: u32,
     timeout: u32,
-) -> Opening
-    ensures { result ≡ opening_of count at token old firstdata firstchannel timeout }
+) -> Reached<u64>
+    ensures { result ≡ opened_by (opening_of count at token old firstdata firstchannel timeout) }
 {
-    if count != session::PLACES {
-        return Opening {
-            answer: 13,
-            number: 0,
-            session: old,
-        };
-    }
-    if token == 0 {
-        return Opening {
-            answer: 24,
-            number: 0,
-            session: old,
-        };
-    }
-    if session::PLACES <= at {
-        return Opening {
-            answer: 25,
-            number: 0,
+    if let Err(refusal) = judge(count, at, token) {
+        return Reached {
+            answer: Err(refusal),
             session: old,
         };
     }
     let x = endpoint::open(firstdata, firstchannel, timeout);
-    if x.answer != 0 {
-        return Opening {
-            answer: x.answer,
-            number: 0,
+    if let Err(refusal) = x.answer {
+        return Reached {
+            answer: Err(refusal),
             session: old,
         };
     }
-    let sender = x.sender;
-    let receiver = x.receiver;
-    let session = Session {
-        token,
-        sender,
-        receiver,
-    };
-    Opening {
-        answer: 0,
-        number: at as u64 + 1,
-        session,
+    Reached {
+        answer: Ok(at as u64 + 1),
+        session: Session {
+            token,
+            sender: x.sender,
+            receiver: x.receiver,
+        },
     }
 }
 
 // Closes a session for its owner: its place is zero throughout. Refused with 13, 23, 24, in this order.
-pub fn close(count: usize, number: u64, token: u64, old: Session) -> Reached
+pub fn close(count: usize, number: u64, token: u64, old: Session) -> Reached<()>
     ensures { result ≡ reached_by (made_of count number token old [] closes) }
 {
-    let answer = session::place_answer(count, number, token, old.token);
-    if answer != 0 {
+    if let Err(refusal) = session::place_answer(count, number, token, old.token) {
         return Reached {
-            answer,
+            answer: Err(refusal),
             session: old,
         };
     }
     let session = session::free();
-    Reached { answer: 0, session }
+    Reached {
+        answer: Ok(()),
+        session,
+    }
 }

@@ -1,9 +1,10 @@
--- The owner's own call: what the endpoint's call ensures is what the definitions say of the session. n is the refusal before all others. Assumes that n is 0.
+-- The owner's own call: what the endpoint's call ensures is what the definitions say of the session. Assumes that it is not refused before all else.
+use Rattle.common.specs.declared.Refusal.{Refusal}
+use Rattle.std.specs.Prelude.{Result, Ok}
 use Prim.Native.Nat.{ℕ}
 use mathlib.Core.List.{List, []}
 use mathlib.Core.Path.{◌≡◌, ◌∙◌, ap}
-use Rattle.common.specs.declared.Written.{Written}
-use Rattle.common.specs.Answer.{written_of, left_of}
+use Rattle.common.specs.Answer.{answered_of, written_of, left_of}
 use Rattle.receiver.specs.declared.Receiver.{Receiver}
 use Rattle.receiver.specs.Record.{state}
 use Rattle.receiver.specs.Take.{take_answer, block_due, taken_of}
@@ -17,34 +18,35 @@ use Rattle.session.specs.Call.{calls, Made, lost_of, done_of, made_of}
 use Rattle.session.specs.Shapes.{reached_by, filled_by}
 use Rattle.session.proofs.Making.{owned}
 
-module _ (count number token : ℕ) (old : Session) (n : ℕ) (e : n ≡ place_answer count number token old.token) (z : n ≡ 0) where
-  pub received : (store d : List ℕ) {answer : ℕ} {s : Sender} {r : Receiver} {left : List ℕ} → answer ≡ receive_answer 32 32 (halves old.sender old.receiver store) d
+module _ (count number token : ℕ) (old : Session) {x : Unit} (e : Ok x ≡ answered_of (place_answer count number token old.token)) where
+  pub received : (store d : List ℕ) {answer : Result Unit Refusal} {s : Sender} {r : Receiver} {left : List ℕ}
+      → answer ≡ answered_of (receive_answer 32 32 (halves old.sender old.receiver store) d)
       → s ≡ (receive_of 32 32 (halves old.sender old.receiver store) d).sender → r ≡ (receive_of 32 32 (halves old.sender old.receiver store) d).receiver
       → left ≡ (receive_of 32 32 (halves old.sender old.receiver store) d).store
       → (record { answer = answer; session = record { token = old.token; sender = s; receiver = r } } ≡ reached_by (made_of count number token old store (calls (receives d))))
       × (left ≡ (made_of count number token old store (calls (receives d))).store)
   unfolding done_of answer_of writes_of call_of lost_of
-  received store d a x y b =
-      let m = owned count number token old store (calls (receives d)) n e z in
-      (rw (a, x, y) (ap reached_by m), b ∙ ap (λ (m : Made). m.store) m)
+  received store d a s r b =
+      let m = owned count number token old store (calls (receives d)) e in
+      (rw (a, s, r) (ap reached_by m), b ∙ ap (λ (m : Made). m.store) m)
 
-  pub taken : (room : ℕ) (store out : List ℕ) {written : Written} {r : Receiver} {left : List ℕ}
-      → written ≡ written_of (take_answer 32 32 (state old.receiver store) room) (block_due 32 (state old.receiver store))
+  pub taken : (room : ℕ) (store out : List ℕ) {answer : Result ℕ Refusal} {r : Receiver} {left : List ℕ}
+      → answer ≡ written_of (take_answer 32 32 (state old.receiver store) room) (block_due 32 (state old.receiver store))
       → r ≡ taken_of 32 32 (state old.receiver store) room
       → left ≡ left_of (take_answer 32 32 (state old.receiver store) room) (block_due 32 (state old.receiver store)) out
-      → (record { written = written; session = record { token = old.token; sender = old.sender; receiver = r } } ≡ filled_by (made_of count number token old store (calls (takes room))))
+      → (record { answer = answer; session = record { token = old.token; sender = old.sender; receiver = r } } ≡ filled_by (made_of count number token old store (calls (takes room))))
       × (left ≡ left_of (made_of count number token old store (calls (takes room))).answer (made_of count number token old store (calls (takes room))).bytes out)
   unfolding done_of answer_of writes_of call_of lost_of
-  taken room store out w x b =
-      let m = owned count number token old store (calls (takes room)) n e z in
-      (rw (w, x) (ap filled_by m), b ∙ ap (λ (m : Made). left_of m.answer m.bytes out) m)
+  taken room store out w r b =
+      let m = owned count number token old store (calls (takes room)) e in
+      (rw (w, r) (ap filled_by m), b ∙ ap (λ (m : Made). left_of m.answer m.bytes out) m)
 
-  pub acknowledged : (room stamp gap : ℕ) (out : List ℕ) {written : Written} {left : List ℕ}
-      → written ≡ written_of (acknowledge_answer 32 32 old.receiver stamp gap room) (acknowledgement_of 32 old.receiver stamp gap)
+  pub acknowledged : (room stamp gap : ℕ) (out : List ℕ) {answer : Result ℕ Refusal} {left : List ℕ}
+      → answer ≡ written_of (acknowledge_answer 32 32 old.receiver stamp gap room) (acknowledgement_of 32 old.receiver stamp gap)
       → left ≡ left_of (acknowledge_answer 32 32 old.receiver stamp gap room) (acknowledgement_of 32 old.receiver stamp gap) out
-      → (written ≡ (filled_by (made_of count number token old [] (calls (acknowledges stamp gap room)))).written)
+      → (answer ≡ (filled_by (made_of count number token old [] (calls (acknowledges stamp gap room)))).answer)
       × (left ≡ left_of (made_of count number token old [] (calls (acknowledges stamp gap room))).answer (made_of count number token old [] (calls (acknowledges stamp gap room))).bytes out)
   unfolding done_of answer_of writes_of call_of lost_of
   acknowledged room stamp gap out w b =
-      let m = owned count number token old [] (calls (acknowledges stamp gap room)) n e z in
-      (w ∙ ap (λ (m : Made). (filled_by m).written) m, b ∙ ap (λ (m : Made). left_of m.answer m.bytes out) m)
+      let m = owned count number token old [] (calls (acknowledges stamp gap room)) e in
+      (w ∙ ap (λ (m : Made). (filled_by m).answer) m, b ∙ ap (λ (m : Made). left_of m.answer m.bytes out) m)

@@ -8,8 +8,8 @@ ghost use Rattle.endpoint.specs.Calls.{receives, takes, acknowledges};
 ghost use Rattle.session.specs.Call.{calls, made_of};
 ghost use Rattle.session.specs.Shapes.{reached_by, filled_by};
 
-use common::Written;
-use session::{Filled, Reached, Session};
+use common::Refusal;
+use session::{Reached, Session};
 
 // Receives one datagram into both halves of a session. store is the receiver's.
 pub fn receive(
@@ -19,30 +19,24 @@ pub fn receive(
     old: Session,
     store: &mut [u8],
     d: &[u8],
-) -> Reached
+) -> Reached<()>
     ensures { (result ≡ reached_by (made_of count number token old store.old (calls (receives d.now))))
         × (store.new ≡ (made_of count number token old store.old (calls (receives d.now))).store) }
 {
-    let answer = session::place_answer(count, number, token, old.token);
-    if answer != 0 {
+    if let Err(refusal) = session::place_answer(count, number, token, old.token) {
         return Reached {
-            answer,
+            answer: Err(refusal),
             session: old,
         };
     }
-    let s = old.sender;
-    let r = old.receiver;
-    let x = receiving::receive(s, r, store, d);
-    let sender = x.sender;
-    let receiver = x.receiver;
-    let session = Session {
-        token: old.token,
-        sender,
-        receiver,
-    };
+    let heard = receiving::receive(old.sender, old.receiver, store, d);
     Reached {
-        answer: x.answer,
-        session,
+        answer: heard.answer,
+        session: Session {
+            sender: heard.sender,
+            receiver: heard.receiver,
+            ..old
+        },
     }
 }
 
@@ -54,28 +48,24 @@ pub fn take(
     old: Session,
     store: &[u8],
     out: &mut [u8],
-) -> Filled
+) -> Reached<usize>
     ensures { (result ≡ filled_by (made_of count number token old store.now (calls (takes (length out.old)))))
         × (out.new ≡ left_of (made_of count number token old store.now (calls (takes (length out.old)))).answer (made_of count number token old store.now (calls (takes (length out.old)))).bytes out.old) }
 {
-    let answer = session::place_answer(count, number, token, old.token);
-    if answer != 0 {
-        return Filled {
-            written: Written::Refused(answer),
+    if let Err(refused) = session::place_answer(count, number, token, old.token) {
+        return Reached {
+            answer: Err(refused),
             session: old,
         };
     }
-    let r = old.receiver;
-    let y = taking::take(r, store, out);
-    let written = y.written;
-    let receiver = y.receiver;
-    let sender = old.sender;
-    let session = Session {
-        token: old.token,
-        sender,
-        receiver,
-    };
-    Filled { written, session }
+    let taken = taking::take(old.receiver, store, out);
+    Reached {
+        answer: taken.written,
+        session: Session {
+            receiver: taken.receiver,
+            ..old
+        },
+    }
 }
 
 // Writes an acknowledgement of what has arrived in a session into out; no record changes.
@@ -87,14 +77,10 @@ pub fn acknowledge(
     stamp: u32,
     gap: u8,
     out: &mut [u8],
-) -> Written
-    ensures { (result ≡ (filled_by (made_of count number token old [] (calls (acknowledges stamp gap (length out.old))))).written)
+) -> Result<usize, Refusal>
+    ensures { (result ≡ (filled_by (made_of count number token old [] (calls (acknowledges stamp gap (length out.old))))).answer)
         × (out.new ≡ left_of (made_of count number token old [] (calls (acknowledges stamp gap (length out.old)))).answer (made_of count number token old [] (calls (acknowledges stamp gap (length out.old)))).bytes out.old) }
 {
-    let answer = session::place_answer(count, number, token, old.token);
-    if answer != 0 {
-        return Written::Refused(answer);
-    }
-    let r = old.receiver;
-    reporting::acknowledge(r, stamp, gap, out)
+    session::place_answer(count, number, token, old.token)?;
+    reporting::acknowledge(old.receiver, stamp, gap, out)
 }

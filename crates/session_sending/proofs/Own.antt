@@ -1,9 +1,10 @@
--- The owner's own call: what the sender's call ensures is what the definitions say of the session. n is the refusal before all others. Assumes that n is 0.
+-- The owner's own call: what the sender's call ensures is what the definitions say of the session. Assumes that it is not refused before all else.
+use Rattle.common.specs.declared.Refusal.{Refusal}
+use Rattle.std.specs.Prelude.{Result, Ok}
 use Prim.Native.Nat.{ℕ}
 use mathlib.Core.List.{List, []}
 use mathlib.Core.Path.{◌≡◌, ◌∙◌, ap}
-use Rattle.common.specs.declared.Written.{Written}
-use Rattle.common.specs.Answer.{written_of, left_of}
+use Rattle.common.specs.Answer.{settled, answered_of, written_of, left_of}
 use Rattle.sender.specs.declared.Sender.{Sender}
 use Rattle.sender.specs.Record.{state}
 use Rattle.sender.specs.Send.{new_answer, new_datagram, new_of, resend_answer, resend_datagram, resend_of}
@@ -15,32 +16,33 @@ use Rattle.session.specs.Call.{calls, Made, lost_of, done_of, made_of}
 use Rattle.session.specs.Shapes.{filled_by, counted_by}
 use Rattle.session.proofs.Making.{owned}
 
-module _ (count number token : ℕ) (old : Session) (n : ℕ) (e : n ≡ place_answer count number token old.token) (z : n ≡ 0) where
-  pub sent : (store : List ℕ) (tick room : ℕ) (block out : List ℕ) {written : Written} {s : Sender} {kept left : List ℕ}
-      → written ≡ written_of (new_answer 32 32 (state old.sender store) block room) (new_datagram (state old.sender store) block)
+module _ (count number token : ℕ) (old : Session) {x : Unit} (e : Ok x ≡ answered_of (place_answer count number token old.token)) where
+  pub sent : (store : List ℕ) (tick room : ℕ) (block out : List ℕ) {answer : Result ℕ Refusal} {s : Sender} {kept left : List ℕ}
+      → answer ≡ written_of (new_answer 32 32 (state old.sender store) block room) (new_datagram (state old.sender store) block)
       → s ≡ (new_of 32 32 (state old.sender store) tick block room).sender
       → kept ≡ (new_of 32 32 (state old.sender store) tick block room).store
       → left ≡ left_of (new_answer 32 32 (state old.sender store) block room) (new_datagram (state old.sender store) block) out
-      → (record { written = written; session = record { token = old.token; sender = s; receiver = old.receiver } } ≡ filled_by (made_of count number token old store (calls (sends tick block room))))
+      → (record { answer = answer; session = record { token = old.token; sender = s; receiver = old.receiver } } ≡ filled_by (made_of count number token old store (calls (sends tick block room))))
       × (kept ≡ (made_of count number token old store (calls (sends tick block room))).store)
       × (left ≡ left_of (made_of count number token old store (calls (sends tick block room))).answer (made_of count number token old store (calls (sends tick block room))).bytes out)
   unfolding done_of answer_of writes_of call_of lost_of
-  sent store tick room block out w x k b =
-      let m = owned count number token old store (calls (sends tick block room)) n e z in
-      (rw (w, x) (ap filled_by m), k ∙ ap (λ (m : Made). m.store) m, b ∙ ap (λ (m : Made). left_of m.answer m.bytes out) m)
+  sent store tick room block out w s k b =
+      let m = owned count number token old store (calls (sends tick block room)) e in
+      (rw (w, s) (ap filled_by m), k ∙ ap (λ (m : Made). m.store) m, b ∙ ap (λ (m : Made). left_of m.answer m.bytes out) m)
 
-  pub resent : (room : ℕ) (store : List ℕ) (tick : ℕ) (out : List ℕ) {written : Written} {s : Sender} {left : List ℕ}
-      → written ≡ written_of (resend_answer 32 32 (state old.sender store) room) (resend_datagram 32 (state old.sender store))
+  pub resent : (room : ℕ) (store : List ℕ) (tick : ℕ) (out : List ℕ) {answer : Result ℕ Refusal} {s : Sender} {left : List ℕ}
+      → answer ≡ written_of (resend_answer 32 32 (state old.sender store) room) (resend_datagram 32 (state old.sender store))
       → s ≡ resend_of 32 32 (state old.sender store) tick room
       → left ≡ left_of (resend_answer 32 32 (state old.sender store) room) (resend_datagram 32 (state old.sender store)) out
-      → (record { written = written; session = record { token = old.token; sender = s; receiver = old.receiver } } ≡ filled_by (made_of count number token old store (calls (resends tick room))))
+      → (record { answer = answer; session = record { token = old.token; sender = s; receiver = old.receiver } } ≡ filled_by (made_of count number token old store (calls (resends tick room))))
       × (left ≡ left_of (made_of count number token old store (calls (resends tick room))).answer (made_of count number token old store (calls (resends tick room))).bytes out)
   unfolding done_of answer_of writes_of call_of lost_of
-  resent room store tick out w x b =
-      let m = owned count number token old store (calls (resends tick room)) n e z in
-      (rw (w, x) (ap filled_by m), b ∙ ap (λ (m : Made). left_of m.answer m.bytes out) m)
+  resent room store tick out w s b =
+      let m = owned count number token old store (calls (resends tick room)) e in
+      (rw (w, s) (ap filled_by m), b ∙ ap (λ (m : Made). left_of m.answer m.bytes out) m)
 
-  pub swept : (tick : ℕ) {answer lost : ℕ} {s : Sender} → answer ≡ sweep_answer 32 32 old.sender → lost ≡ sweep_count 32 32 old.sender tick → s ≡ sweep_of 32 32 old.sender tick
-      → record { answer = answer; lost = lost; session = record { token = old.token; sender = s; receiver = old.receiver } } ≡ counted_by (made_of count number token old [] (calls (sweeps tick)))
+  pub swept : (tick : ℕ) {answer : Result ℕ Refusal} {s : Sender} → answer ≡ settled (sweep_answer 32 32 old.sender) (sweep_count 32 32 old.sender tick)
+      → s ≡ sweep_of 32 32 old.sender tick
+      → record { answer = answer; session = record { token = old.token; sender = s; receiver = old.receiver } } ≡ counted_by (made_of count number token old [] (calls (sweeps tick)))
   unfolding done_of answer_of writes_of call_of lost_of
-  swept tick a l x = rw (a, l, x) (ap counted_by (owned count number token old [] (calls (sweeps tick)) n e z))
+  swept tick a s = rw (a, s) (ap counted_by (owned count number token old [] (calls (sweeps tick)) e))

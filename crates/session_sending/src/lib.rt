@@ -8,8 +8,8 @@ ghost use Rattle.endpoint.specs.Calls.{sends, resends, sweeps};
 ghost use Rattle.session.specs.Call.{calls, made_of};
 ghost use Rattle.session.specs.Shapes.{filled_by, counted_by};
 
-use common::Written;
-use session::{Counted, Filled, Session};
+use common::Refusal;
+use session::{Reached, Session};
 
 // Sends a new block in a session: writes its datagram into out. store is the sender's.
 pub fn send(
@@ -21,29 +21,25 @@ pub fn send(
     tick: u32,
     block: &[u8],
     out: &mut [u8],
-) -> Filled
+) -> Reached<usize>
     ensures { (result ≡ filled_by (made_of count number token old store.old (calls (sends tick block.now (length out.old)))))
         × (store.new ≡ (made_of count number token old store.old (calls (sends tick block.now (length out.old)))).store)
         × (out.new ≡ left_of (made_of count number token old store.old (calls (sends tick block.now (length out.old)))).answer (made_of count number token old store.old (calls (sends tick block.now (length out.old)))).bytes out.old) }
 {
-    let answer = session::place_answer(count, number, token, old.token);
-    if answer != 0 {
-        return Filled {
-            written: Written::Refused(answer),
+    if let Err(refusal) = session::place_answer(count, number, token, old.token) {
+        return Reached {
+            answer: Err(refusal),
             session: old,
         };
     }
-    let s = old.sender;
-    let x = sending::send(s, store, tick, block, out);
-    let written = x.written;
-    let sender = x.sender;
-    let receiver = old.receiver;
-    let session = Session {
-        token: old.token,
-        sender,
-        receiver,
-    };
-    Filled { written, session }
+    let sent = sending::send(old.sender, store, tick, block, out);
+    Reached {
+        answer: sent.written,
+        session: Session {
+            sender: sent.sender,
+            ..old
+        },
+    }
 }
 
 // Sends the lowest waiting block of a session again: writes its datagram into out. store is the sender's.
@@ -55,54 +51,42 @@ pub fn resend(
     store: &[u8],
     tick: u32,
     out: &mut [u8],
-) -> Filled
+) -> Reached<usize>
     ensures { (result ≡ filled_by (made_of count number token old store.now (calls (resends tick (length out.old)))))
         × (out.new ≡ left_of (made_of count number token old store.now (calls (resends tick (length out.old)))).answer (made_of count number token old store.now (calls (resends tick (length out.old)))).bytes out.old) }
 {
-    let answer = session::place_answer(count, number, token, old.token);
-    if answer != 0 {
-        return Filled {
-            written: Written::Refused(answer),
+    if let Err(refusal) = session::place_answer(count, number, token, old.token) {
+        return Reached {
+            answer: Err(refusal),
             session: old,
         };
     }
-    let s = old.sender;
-    let y = resending::resend(s, store, tick, out);
-    let written = y.written;
-    let sender = y.sender;
-    let receiver = old.receiver;
-    let session = Session {
-        token: old.token,
-        sender,
-        receiver,
-    };
-    Filled { written, session }
+    let resent = resending::resend(old.sender, store, tick, out);
+    Reached {
+        answer: resent.written,
+        session: Session {
+            sender: resent.sender,
+            ..old
+        },
+    }
 }
 
 // Finds what is lost in a session at a tick.
-pub fn sweep(count: usize, number: u64, token: u64, old: Session, tick: u32) -> Counted
+pub fn sweep(count: usize, number: u64, token: u64, old: Session, tick: u32) -> Reached<u32>
     ensures { result ≡ counted_by (made_of count number token old [] (calls (sweeps tick))) }
 {
-    let answer = session::place_answer(count, number, token, old.token);
-    if answer != 0 {
-        return Counted {
-            answer,
-            lost: 0,
+    if let Err(refusal) = session::place_answer(count, number, token, old.token) {
+        return Reached {
+            answer: Err(refusal),
             session: old,
         };
     }
-    let s = old.sender;
-    let z = sweeping::sweep(s, tick);
-    let sender = z.sender;
-    let receiver = old.receiver;
-    let session = Session {
-        token: old.token,
-        sender,
-        receiver,
-    };
-    Counted {
-        answer: z.answer,
-        lost: z.lost,
-        session,
+    let swept = sweeping::sweep(old.sender, tick);
+    Reached {
+        answer: swept.lost,
+        session: Session {
+            sender: swept.sender,
+            ..old
+        },
     }
 }

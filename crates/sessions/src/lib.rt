@@ -9,10 +9,10 @@ ghost use Rattle.common.specs.Answer.{left_of};
 ghost use Rattle.endpoint.specs.Calls.{receives, takes, acknowledges, sends, resends, sweeps};
 ghost use Rattle.session.specs.Call.{calls, closes};
 ghost use Rattle.session.specs.List.{outcome_of, list_of, opening_at, open_list_of};
-ghost use Rattle.session.specs.Shapes.{filled_by, tally_by, granted_by};
+ghost use Rattle.session.specs.Shapes.{reached_by, filled_by, counted_by, opened_by};
 
-use common::Written;
-use session::{Granted, Session, Tally};
+use common::Refusal;
+use session::Session;
 
 // Opens a session at the lowest free place, for the owner of a token: the first number of each kind, and the loss timeout. Gives its number. Refused with 13, 24
 // for a token of 0, 25 if no place is free, 15, in this order.
@@ -22,23 +22,20 @@ pub fn open(
     firstdata: u32,
     firstchannel: u32,
     timeout: u32,
-) -> Granted
-    ensures { (result ≡ granted_by (opening_at list.old token firstdata firstchannel timeout))
+) -> Result<u64, Refusal>
+    ensures { (result ≡ (opened_by (opening_at list.old token firstdata firstchannel timeout)).answer)
         × (list.new ≡ open_list_of list.old token firstdata firstchannel timeout) }
 {
     let at = places::lowest_free(&*list);
     let old = places::get(&*list, at);
     let made = session_opening::open(list.len(), at, token, old, firstdata, firstchannel, timeout);
     places::put(&mut *list, at, made.session);
-    Granted {
-        answer: made.answer,
-        number: made.number,
-    }
+    made.answer
 }
 
 // Closes a session for its owner. Its place is zero throughout afterwards, and free.
-pub fn close(list: &mut [Session], number: u64, token: u64) -> u8
-    ensures { (result ≡ (outcome_of list.old number token [] closes).answer)
+pub fn close(list: &mut [Session], number: u64, token: u64) -> Result<(), Refusal>
+    ensures { (result ≡ (reached_by (outcome_of list.old number token [] closes)).answer)
         × (list.new ≡ list_of list.old number token [] closes) }
 {
     let at = session::place_of(number);
@@ -49,8 +46,14 @@ pub fn close(list: &mut [Session], number: u64, token: u64) -> u8
 }
 
 // Receives one datagram into a session. store is the receiver's of that session, of 39,200 bytes.
-pub fn receive(list: &mut [Session], number: u64, token: u64, store: &mut [u8], d: &[u8]) -> u8
-    ensures { (result ≡ (outcome_of list.old number token store.old (calls (receives d.now))).answer)
+pub fn receive(
+    list: &mut [Session],
+    number: u64,
+    token: u64,
+    store: &mut [u8],
+    d: &[u8],
+) -> Result<(), Refusal>
+    ensures { (result ≡ (reached_by (outcome_of list.old number token store.old (calls (receives d.now)))).answer)
         × (list.new ≡ list_of list.old number token store.old (calls (receives d.now)))
         × (store.new ≡ (outcome_of list.old number token store.old (calls (receives d.now))).store) }
 {
@@ -62,8 +65,14 @@ pub fn receive(list: &mut [Session], number: u64, token: u64, store: &mut [u8], 
 }
 
 // Takes the block due of a session into out. store is the receiver's of that session.
-pub fn take(list: &mut [Session], number: u64, token: u64, store: &[u8], out: &mut [u8]) -> Written
-    ensures { (result ≡ (filled_by (outcome_of list.old number token store.now (calls (takes (length out.old))))).written)
+pub fn take(
+    list: &mut [Session],
+    number: u64,
+    token: u64,
+    store: &[u8],
+    out: &mut [u8],
+) -> Result<usize, Refusal>
+    ensures { (result ≡ (filled_by (outcome_of list.old number token store.now (calls (takes (length out.old))))).answer)
         × (list.new ≡ list_of list.old number token store.now (calls (takes (length out.old))))
         × (out.new ≡ left_of (outcome_of list.old number token store.now (calls (takes (length out.old)))).answer (outcome_of list.old number token store.now (calls (takes (length out.old)))).bytes out.old) }
 {
@@ -71,7 +80,7 @@ pub fn take(list: &mut [Session], number: u64, token: u64, store: &[u8], out: &m
     let old = places::get(&*list, at);
     let made = session_receiving::take(list.len(), number, token, old, store, out);
     places::put(&mut *list, at, made.session);
-    made.written
+    made.answer
 }
 
 // Writes an acknowledgement of what has arrived in a session into out, with the caller's time stamp and gap; no place changes.
@@ -82,8 +91,8 @@ pub fn acknowledge(
     stamp: u32,
     gap: u8,
     out: &mut [u8],
-) -> Written
-    ensures { (result ≡ (filled_by (outcome_of list.now number token [] (calls (acknowledges stamp gap (length out.old))))).written)
+) -> Result<usize, Refusal>
+    ensures { (result ≡ (filled_by (outcome_of list.now number token [] (calls (acknowledges stamp gap (length out.old))))).answer)
         × (out.new ≡ left_of (outcome_of list.now number token [] (calls (acknowledges stamp gap (length out.old)))).answer (outcome_of list.now number token [] (calls (acknowledges stamp gap (length out.old)))).bytes out.old) }
 {
     let at = session::place_of(number);
@@ -100,8 +109,8 @@ pub fn send(
     tick: u32,
     block: &[u8],
     out: &mut [u8],
-) -> Written
-    ensures { (result ≡ (filled_by (outcome_of list.old number token store.old (calls (sends tick block.now (length out.old))))).written)
+) -> Result<usize, Refusal>
+    ensures { (result ≡ (filled_by (outcome_of list.old number token store.old (calls (sends tick block.now (length out.old))))).answer)
         × (list.new ≡ list_of list.old number token store.old (calls (sends tick block.now (length out.old))))
         × (store.new ≡ (outcome_of list.old number token store.old (calls (sends tick block.now (length out.old)))).store)
         × (out.new ≡ left_of (outcome_of list.old number token store.old (calls (sends tick block.now (length out.old)))).answer (outcome_of list.old number token store.old (calls (sends tick block.now (length out.old)))).bytes out.old) }
@@ -110,7 +119,7 @@ pub fn send(
     let old = places::get(&*list, at);
     let made = session_sending::send(list.len(), number, token, old, store, tick, block, out);
     places::put(&mut *list, at, made.session);
-    made.written
+    made.answer
 }
 
 // Sends the lowest waiting block of a session again at a tick: writes its datagram into out. store is the sender's of that session.
@@ -121,8 +130,8 @@ pub fn resend(
     store: &[u8],
     tick: u32,
     out: &mut [u8],
-) -> Written
-    ensures { (result ≡ (filled_by (outcome_of list.old number token store.now (calls (resends tick (length out.old))))).written)
+) -> Result<usize, Refusal>
+    ensures { (result ≡ (filled_by (outcome_of list.old number token store.now (calls (resends tick (length out.old))))).answer)
         × (list.new ≡ list_of list.old number token store.now (calls (resends tick (length out.old))))
         × (out.new ≡ left_of (outcome_of list.old number token store.now (calls (resends tick (length out.old)))).answer (outcome_of list.old number token store.now (calls (resends tick (length out.old)))).bytes out.old) }
 {
@@ -130,20 +139,17 @@ pub fn resend(
     let old = places::get(&*list, at);
     let made = session_sending::resend(list.len(), number, token, old, store, tick, out);
     places::put(&mut *list, at, made.session);
-    made.written
+    made.answer
 }
 
 // Finds what is lost in a session at a tick, and answers how many.
-pub fn sweep(list: &mut [Session], number: u64, token: u64, tick: u32) -> Tally
-    ensures { (result ≡ tally_by (outcome_of list.old number token [] (calls (sweeps tick))))
+pub fn sweep(list: &mut [Session], number: u64, token: u64, tick: u32) -> Result<u32, Refusal>
+    ensures { (result ≡ (counted_by (outcome_of list.old number token [] (calls (sweeps tick)))).answer)
         × (list.new ≡ list_of list.old number token [] (calls (sweeps tick))) }
 {
     let at = session::place_of(number);
     let old = places::get(&*list, at);
     let made = session_sending::sweep(list.len(), number, token, old, tick);
     places::put(&mut *list, at, made.session);
-    Tally {
-        answer: made.answer,
-        lost: made.lost,
-    }
+    made.answer
 }

@@ -1,36 +1,14 @@
 // Lists one datagram: the bytes of standard input, as lines on standard output.
 #![tactic(auto)]
 
-ghost use Rattle.std.specs.Prelude.{◌≤◌, ◌<◌, length, take, IfOk};
-ghost use Rattle.std.specs.Io.KnownBytes.{Consumes, IsAtEnd};
-
-use common::Written;
 use std::io;
-use std::io::Read;
-
-// Fills a buffer as far as the input goes, and answers how many bytes that is. What it has no room for is left unread.
-fn read<R: Read>(input: &mut R, out: &mut [u8]) -> io::Result<usize>
-    ensures within { IfOk result (λ n. n ≤ length out.old) }
-    ensures bytes { IfOk result (λ n. Consumes (R.remaining input.old) (R.remaining input.new) (take n out.new)) }
-    ensures end { IfOk result (λ n. n < length out.old → IsAtEnd (R.remaining input.new)) }
-{
-    let mut n = 0;
-    while n < out.len() {
-        let more = input.read(&mut out[n..])?;
-        if more == 0 {
-            return Ok(n);
-        }
-        n += more;
-    }
-    Ok(n)
-}
 
 fn main(rt: HostRuntime) -> io::Result<()> {
     // One byte more than the longest datagram, so that a longer input is told as too long.
     let mut datagram = [0u8; 1233];
-    let n = read(&mut rt.stdin(), &mut datagram)?;
+    let n = input::read(&mut rt.stdin(), &mut datagram)?;
     let mut text = [0u8; 512];
-    let Written::Wrote(k) = listing::lines(&datagram[..n], &mut text) else {
+    let Ok(k) = listing::lines(&datagram[..n], &mut text) else {
         return Ok(());
     };
     rt.write_all(&text[..k])

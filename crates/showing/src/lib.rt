@@ -2,7 +2,7 @@
 // their place, so that a byte which the call should have left is seen.
 #![tactic(auto)]
 
-use common::Written;
+use common::Refusal;
 use std::io;
 
 // So many bytes at the front and at the end of a long text are shown.
@@ -56,11 +56,7 @@ fn step(sum: u64, b: u8) -> u64 {
 
 // The sum of the first n bytes, which another byte, another place or another length changes.
 pub fn sum(rt: &impl Print, word: &[u8], b: &[u8], n: usize) -> io::Result<()> {
-    let mut s: u64 = 0;
-    for x in b.iter().take(n) {
-        s = step(s, *x);
-    }
-    number(rt, word, s)
+    number(rt, word, b.iter().take(n).fold(0, |s, x| step(s, *x)))
 }
 
 // The first n bytes in hexadecimal; of more than 32 the first and the last 16, and the sum of all.
@@ -81,23 +77,23 @@ fn filled(i: usize, b: u8) -> bool {
 
 // How many bytes from place from on are not as they were filled.
 pub fn touched(rt: &impl Print, out: &[u8], from: usize) -> io::Result<()> {
-    let mut n: u64 = 0;
-    for (i, b) in out.iter().enumerate().skip(from) {
-        if !filled(i, *b) {
-            n = n.wrapping_add(1);
-        }
-    }
-    number(rt, b" touched=", n)
+    let n = out
+        .iter()
+        .enumerate()
+        .skip(from)
+        .filter(|(i, b)| !filled(*i, **b))
+        .count();
+    number(rt, b" touched=", n as u64)
 }
 
 // The answer of a call that writes into a buffer that was filled: how many bytes it wrote and which, and how many others it touched.
-pub fn answered(rt: &impl Print, w: Written, out: &[u8]) -> io::Result<()> {
+pub fn answered(rt: &impl Print, w: Result<usize, Refusal>, out: &[u8]) -> io::Result<()> {
     match w {
-        Written::Refused(n) => {
-            number(rt, b" answer=", n as u64)?;
+        Err(refusal) => {
+            number(rt, b" answer=", u8::from(refusal) as u64)?;
             touched(rt, out, 0)
         }
-        Written::Wrote(k) => {
+        Ok(k) => {
             number(rt, b" answer=0 bytes=", k as u64)?;
             rt.write_all(b" ")?;
             bytes(rt, out, k)?;

@@ -6,42 +6,25 @@ use receiver::Receiver;
 use sender::Sender;
 use std::io;
 
-// How many places there are of each kind.
-const PLACES: usize = 32;
-
 // The marks of a receiver: the places of the numbers that are received.
 fn marks(rt: &impl Print, r: Receiver) -> io::Result<()> {
-    for i in 0..PLACES {
-        let m = r.marks[i];
-        mark(rt, i, m)?;
+    for (i, m) in r.marks.iter().enumerate() {
+        if *m != 0 {
+            showing::number(rt, b" mark", i as u64)?;
+            showing::number(rt, b"=", *m as u64)?;
+        }
     }
     Ok(())
 }
 
-// A mark.
-fn mark(rt: &impl Print, i: usize, m: u8) -> io::Result<()> {
-    if m != 0 {
-        showing::number(rt, b" mark", i as u64)?;
-        showing::number(rt, b"=", m as u64)?;
-    }
-    Ok(())
-}
-
-// A place that holds a block: 1, and the block's length.
-fn hold(rt: &impl Print, i: usize, held: u8, length: u16) -> io::Result<()> {
-    if held as u64 + length as u64 != 0 {
-        showing::number(rt, b" hold", i as u64)?;
-        showing::number(rt, b"=", held as u64)?;
-        showing::number(rt, b",", length as u64)?;
-    }
-    Ok(())
-}
-
-// The blocks that a receiver holds.
+// The blocks that a receiver holds: of each 1, and the block's length.
 fn holds(rt: &impl Print, r: Receiver) -> io::Result<()> {
-    for i in 0..PLACES {
-        let h = r.holds[i];
-        hold(rt, i, h.held, h.length)?;
+    for (i, h) in r.holds.iter().enumerate() {
+        if h.held != 0 || h.length != 0 {
+            showing::number(rt, b" hold", i as u64)?;
+            showing::number(rt, b"=", h.held as u64)?;
+            showing::number(rt, b",", h.length as u64)?;
+        }
     }
     Ok(())
 }
@@ -57,42 +40,28 @@ pub fn receiver(rt: &impl Print, r: Receiver) -> io::Result<()> {
     holds(rt, r)
 }
 
-// A data number's place: its state, the block that it carried, and the tick at which it was sent.
-fn data(rt: &impl Print, i: usize, state: u8, channel: u64, tick: u32) -> io::Result<()> {
-    if state == 0 && channel == 0 && tick == 0 {
-        return Ok(());
-    }
-    showing::number(rt, b" number", i as u64)?;
-    showing::number(rt, b"=", state as u64)?;
-    showing::number(rt, b",", channel)?;
-    showing::number(rt, b",", tick as u64)
-}
-
-// The places of a sender's data numbers.
+// The places of a sender's data numbers: of each its state, the block that it carried, and the tick at which it was sent.
 fn numbers(rt: &impl Print, s: Sender) -> io::Result<()> {
-    for i in 0..PLACES {
-        let p = s.numbers[i];
-        data(rt, i, p.state, p.channel.0, p.tick)?;
+    for (i, p) in s.numbers.iter().enumerate() {
+        if p.state != 0 || p.channel.0 != 0 || p.tick != 0 {
+            showing::number(rt, b" number", i as u64)?;
+            showing::number(rt, b"=", p.state as u64)?;
+            showing::number(rt, b",", p.channel.0)?;
+            showing::number(rt, b",", p.tick as u64)?;
+        }
     }
     Ok(())
 }
 
-// A block's place: its state, its length and how often it was sent.
-fn block(rt: &impl Print, i: usize, state: u8, length: u16, sends: u8) -> io::Result<()> {
-    if state as u64 + length as u64 + sends as u64 != 0 {
-        showing::number(rt, b" block", i as u64)?;
-        showing::number(rt, b"=", state as u64)?;
-        showing::number(rt, b",", length as u64)?;
-        showing::number(rt, b",", sends as u64)?;
-    }
-    Ok(())
-}
-
-// The places of a sender's blocks.
+// The places of a sender's blocks: of each its state, its length and how often it was sent.
 fn blocks(rt: &impl Print, s: Sender) -> io::Result<()> {
-    for i in 0..PLACES {
-        let b = s.blocks[i];
-        block(rt, i, b.state, b.length, b.sends)?;
+    for (i, b) in s.blocks.iter().enumerate() {
+        if b.state != 0 || b.length != 0 || b.sends != 0 {
+            showing::number(rt, b" block", i as u64)?;
+            showing::number(rt, b"=", b.state as u64)?;
+            showing::number(rt, b",", b.length as u64)?;
+            showing::number(rt, b",", b.sends as u64)?;
+        }
     }
     Ok(())
 }

@@ -1,4 +1,7 @@
 -- One line's step, a law for each way out.
+use Rattle.endpoint.specs.Open.{Opens}
+use Rattle.std.specs.Prelude.{Err, Ok}
+use Rattle.common.specs.declared.Refusal.{Refusal}
 use Prim.Native.Nat.{ℕ, ◌+◌, ◌*◌, ◌≤◌}
 use mathlib.Core.Bool.{Bool, true, false, cond}
 use mathlib.Core.List.{List, []}
@@ -9,18 +12,14 @@ use borrow.Author.Tests.{eq-eqb, ne_eqb, eqb-true}
 use lib.ListN.{length, take, drop}
 use lib.Seq.{take_at}
 use lib.Dec.{eqb}
-use Rattle.common.specs.declared.Written.TheVariants.{Refused, Wrote}
 use Rattle.common.specs.Put.{put_of, put_front}
-use Rattle.common.specs.Answer.{written_of, left_of}
+use Rattle.common.specs.Answer.{written_of, left_of, settled_err, settled_ok}
 use Rattle.common.specs.Facts.{bool, clash, not_so}
 use Rattle.common.specs.Laid.{laid_nothing}
 use Rattle.text.specs.Ascii.{ascii}
 use Rattle.text.specs.Within.{LaidWithin, within, within_as}
 use Rattle.trace.specs.declared.Cursor.{Cursor}
-use Rattle.trace.specs.declared.Value.{Value}
-use Rattle.trace.specs.declared.Value.TheVariants.{Bad, Given}
-use Rattle.trace.specs.declared.Pair.{Pair}
-use Rattle.trace.specs.declared.Pair.TheVariants as pair
+use Rattle.std.specs.Prelude.{Option, None, Some}
 use Rattle.trace.specs.Words.{same}
 use Rattle.trace.specs.Numbers.{number_under, first_of, on_number, on_pair}
 use Rattle.trace.specs.Kinds.{kind_of}
@@ -30,7 +29,6 @@ use Rattle.trace.proofs.Due.{behind_taken, behind_refused}
 use Rattle.trace.specs.DataLaws.{data_long, data_length, data_bad, data_fits}
 use Rattle.receiver.specs.declared.Receiver.{Receiver}
 use Rattle.sender.specs.declared.Sender.{Sender}
-use Rattle.endpoint.specs.declared.Opened.{Opened}
 use Rattle.endpoint.specs.Fresh.{endpoint_of}
 use Rattle.endpoint.specs.Calls.{Endpoint, call_of}
 use Rattle.trace_state.specs.declared.State.{State}
@@ -45,34 +43,31 @@ module _ (k : ℕ) (l : List ℕ) (room : ℕ) (big : 32768 ≤ room) (short : l
   accepted : data_good k l ≡ true → 0 ≡ data_answer k l room
   accepted g = data_fits k l room g (omega arith)
 
-  pub data_refused : {n : ℕ} → Refused n ≡ written_of (data_answer k l room) (data_bytes l) → data_good k l ≡ false
+  pub data_refused : {r : Refusal} → Err r ≡ written_of (data_answer k l room) (data_bytes l) → data_good k l ≡ false
   unfolding written_of
-  data_refused {n} w =
-      not_so (data_good k l)
-      (λ g. let e : Refused n ≡ Wrote (length (data_bytes l)) = rw (← accepted g) at w in let z : ◌≡◌ {A = ℕ} 0 1 = cc in absurd (omega arith))
+  data_refused {r} w =
+      let (h, q) = settled_err r (data_answer k l room) (length (data_bytes l)) w in
+      not_so (data_good k l) (λ g. h (sym (accepted g)))
 
-  pub data_wrote : {n : ℕ} → Wrote n ≡ written_of (data_answer k l room) (data_bytes l) → data_good k l ≡ true
+  -- it was accepted, and how many bytes were read
+  data_ok : {n : ℕ} → Ok n ≡ written_of (data_answer k l room) (data_bytes l) → (0 ≡ data_answer k l room) × (n ≡ length (data_bytes l))
   unfolding written_of
-  data_wrote {n} w =
-      ⊎_elim
-      (λ g. g)
-      (λ g. let e : Wrote n ≡ Refused 16 = rw (← data_bad k l room g) at w in let z : ◌≡◌ {A = ℕ} 0 1 = cc in absurd (omega arith))
-      (bool (data_good k l))
+  data_ok {n} w = settled_ok n (data_answer k l room) (length (data_bytes l)) w
 
-  -- how many bytes were read, and which
-  data_count : {n : ℕ} → Wrote n ≡ written_of (data_answer k l room) (data_bytes l) → n ≡ length (data_bytes l)
-  unfolding written_of
-  data_count {n} w = let e : Wrote n ≡ Wrote (length (data_bytes l)) = rw (← accepted (data_wrote w)) at w in cc
+  pub data_wrote : {n : ℕ} → Ok n ≡ written_of (data_answer k l room) (data_bytes l) → data_good k l ≡ true
+  data_wrote w = ⊎_elim (λ g. g) (λ g. absurd (omega (arith, (data_ok w).0, data_bad k l room g))) (bool (data_good k l))
 
-  pub data_taken : {n : ℕ} {b : List ℕ} (z : List ℕ) → Wrote n ≡ written_of (data_answer k l room) (data_bytes l)
+  -- and which
+  pub data_taken : {n : ℕ} {b : List ℕ} (z : List ℕ) → Ok n ≡ written_of (data_answer k l room) (data_bytes l)
       → b ≡ left_of (data_answer k l room) (data_bytes l) z → take n b ≡ data_bytes l
   unfolding left_of
   data_taken {n} {b} z w q =
-      let p : b ≡ put_of z 0 (data_bytes l) = rw (← accepted (data_wrote w)) at q in
-      ap (take n) (p ∙ put_front z (data_bytes l)) ∙ take_at (data_bytes l) (drop (length (data_bytes l)) z) n (sym (data_count w))
+      let (e, h) = data_ok w in
+      let p : b ≡ put_of z 0 (data_bytes l) = rw (← e) at q in
+      ap (take n) (p ∙ put_front z (data_bytes l)) ∙ take_at (data_bytes l) (drop (length (data_bytes l)) z) n (sym h)
 
-  pub data_within : {n : ℕ} → Wrote n ≡ written_of (data_answer k l room) (data_bytes l) → n ≤ 32768
-  data_within w = omega (arith, data_count w, data_length l)
+  pub data_within : {n : ℕ} → Ok n ≡ written_of (data_answer k l room) (data_bytes l) → n ≤ 32768
+  data_within w = omega (arith, (data_ok w).1, data_length l)
 
 -- The ways out of a line of data.
 
@@ -119,25 +114,25 @@ module _ (s : State) (l out : List ℕ) (at : ℕ) where
 -- The ways out of any other line.
 
 -- a tick line and a kind line pay for an answer by their length
-tick_paid : (c : Cursor) (l : List ℕ) (v : Value) → number_under (ascii "tick=") l ≡ v → paid (on_number v (λ t. tick_read c t) (due_of c 7)).due ≤ 5 * (length l + 1)
+tick_paid : (c : Cursor) (l : List ℕ) (v : Option ℕ) → number_under (ascii "tick=") l ≡ v → paid (on_number v (λ t. tick_read c t) (due_of c 7)).due ≤ 5 * (length l + 1)
 unfolding paid
-tick_paid c l Bad h = omega arith
-tick_paid c l (Given n) h = omega (arith, number_under_long (ascii "tick=") l n h)
+tick_paid c l None h = omega arith
+tick_paid c l (Some n) h = omega (arith, number_under_long (ascii "tick=") l n h)
 
 kind_paid : (c : Cursor) (l : List ℕ) (b : Bool) → eqb (kind_of l) 0 ≡ b → paid (cond b (due_of c 7) (kind_read c (kind_of l))).due ≤ 30 + 5 * (length l + 1)
 unfolding paid
 kind_paid c l true h = omega arith
 kind_paid c l false h = omega (arith, kind_of_long l (λ e. clash true refl (sym (eq-eqb (kind_of l) 0 e) ∙ h)))
 
-first_paid : (c : Cursor) (v : Pair) → paid (on_pair v (λ d h. first_read c d h) (due_of c 8)).due ≡ 0
+first_paid : (c : Cursor) (v : Option (ℕ × ℕ)) → paid (on_pair v (λ d h. first_read c d h) (due_of c 8)).due ≡ 0
 unfolding paid
-first_paid c pair.Bad = refl
-first_paid c (pair.Both d h) = refl
+first_paid c None = refl
+first_paid c (Some (d, h)) = refl
 
-timeout_paid : (c : Cursor) (v : Value) → paid (on_number v (λ t. timeout_read c t) (due_of c 8)).due ≡ 0
+timeout_paid : (c : Cursor) (v : Option ℕ) → paid (on_number v (λ t. timeout_read c t) (due_of c 8)).due ≡ 0
 unfolding paid
-timeout_paid c Bad = refl
-timeout_paid c (Given t) = refl
+timeout_paid c None = refl
+timeout_paid c (Some t) = refl
 
 paid_free : (n : ℕ) → (n ≡ 5 → ⊥) → (n ≡ 6 → ⊥) → paid n ≡ 0
 unfolding paid
@@ -174,7 +169,7 @@ opens_both a b h = by (eqb a 3) refl h
     by true e q = (eqb-true a 3 e, eqb-true b 4 q)
     by false e q = clash false q refl
 
-opened_paid : (c : Cursor) (o : Opened) → c.due ≡ 4 → paid (opened_by c o) ≡ 0
+opened_paid : (c : Cursor) (o : Opens) → c.due ≡ 4 → paid (opened_by c o) ≡ 0
 unfolding opened_by
 opened_paid c o h = by (eqb o.answer 0)
   where

@@ -5,7 +5,6 @@ ghost use Rattle.std.specs.Prelude.{◌≡◌, ◌+◌, ◌≤◌, length};
 ghost use Rattle.trace.specs.Read.{data_due};
 ghost use Rattle.trace_state.specs.Takes.{Steps, machine_of};
 
-use common::Written;
 use trace_state::State;
 
 // Half of the longest trace: no line of data names more bytes.
@@ -33,22 +32,19 @@ fn data_line(
     ensures { Steps (machine_of s store.old sent.old) line.now out.old at result.state store.new sent.new out.new result.at }
 {
     let c = s.cursor;
-    let sender = s.sender;
-    let receiver = s.receiver;
     let mut bytes = [0u8; DATA];
     match trace_data::read(c.kind, line, &mut bytes) {
-        Written::Refused(_) => Stepped {
+        Err(_) => Stepped {
             at,
             state: State {
                 cursor: trace::behind_data(c, false),
-                sender,
-                receiver,
+                ..s
             },
         },
-        Written::Wrote(n) => {
+        Ok(n) => {
             let x = answering::answer(
-                sender,
-                receiver,
+                s.sender,
+                s.receiver,
                 store,
                 sent,
                 c.kind,
@@ -57,14 +53,12 @@ fn data_line(
                 out,
                 at,
             );
-            let after = x.sender;
-            let then = x.receiver;
             Stepped {
                 at: x.at,
                 state: State {
                     cursor: trace::behind_data(c, true),
-                    sender: after,
-                    receiver: then,
+                    sender: x.sender,
+                    receiver: x.receiver,
                 },
             }
         }
@@ -83,24 +77,17 @@ pub fn step(
     requires { (at + 30 ≤ length out.old) × (length line.now ≤ 65536) }
     ensures { Steps (machine_of s store.old sent.old) line.now out.old at result.state store.new sent.new out.new result.at }
 {
-    let c = s.cursor;
-    let due = c.due;
+    let due = s.cursor.due;
     if due == trace::DATA_DUE {
         return data_line(s, line, store, sent, out, at);
     }
-    let n = trace_reading::next(c, line);
+    let n = trace_reading::next(s.cursor, line);
     if trace_state::opens(due, n.due) {
         let state = trace_state::opened(n);
         return Stepped { at, state };
     }
-    let sender = s.sender;
-    let receiver = s.receiver;
     Stepped {
         at,
-        state: State {
-            cursor: n,
-            sender,
-            receiver,
-        },
+        state: State { cursor: n, ..s },
     }
 }

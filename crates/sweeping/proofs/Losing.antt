@@ -1,4 +1,5 @@
 -- The one pass of a sweep: a law for each of its steps, and one for each way out of the call, over any window w.
+use Rattle.std.specs.Prelude.{Result, Ok, Err}
 use Prim.Native.Nat.{ℕ, zero, suc, ◌+◌, ◌-◌, ◌%◌, ◌≤◌, ◌<◌}
 use mathlib.Core.Bool.{Bool, true, false, cond}
 use mathlib.Core.List.{List, [], ◌∷◌}
@@ -11,6 +12,9 @@ use lib.ListN.{get_or, set, replicate, length-set, length-replicate}
 use lib.Seq.{get_or-set_same, get_or-set_other}
 use lib.Dec.{eqb, leb, ltb}
 use borrow.Author.Tests.{lt-ltb, le-ltb, eqb-true, eqb-false}
+use Rattle.common.specs.declared.Refusal.{Refusal}
+use Rattle.common.specs.declared.Refusal.TheVariants.{Unsound}
+use Rattle.common.specs.Answer.{settled, settled_refused}
 use Rattle.common.specs.Every.{every, count_below}
 use Rattle.common.specs.Facts.{bool, lt_or_ge}
 use Rattle.common.specs.Order.{first}
@@ -185,18 +189,18 @@ module _ (w : ℕ) where
       let z : count_below (becomes_lost w s tick) i ≡ 0 = ap (count_below (becomes_lost w s tick)) e ∙ count_none _ in
       (omega (arith, h.counted), subst (FlagsLostIn w s tick flags) e h.flagged)
 
-  -- the whole call: its answer, how many became lost, and the record
-  abbrev pub Sweeps : Sender → ℕ → ℕ → ℕ → Sender → Type 0
-  Sweeps s tick answer count q = (answer ≡ sweep_answer w w s) × ((count ≡ sweep_count w w s tick) × (q ≡ sweep_of w w s tick))
+  -- the whole call: how many became lost, and the record
+  abbrev pub Sweeps : Sender → ℕ → Result ℕ Refusal → Sender → Type 0
+  Sweeps s tick lost q = (lost ≡ settled (sweep_answer w w s) (sweep_count w w s tick)) × (q ≡ sweep_of w w s tick)
 
-  pub swept_unfit : (s : Sender) (tick : ℕ) → consistent_of w w s ≡ false → Sweeps s tick 13 0 s
-  unfolding sweep_answer sweep_count sweep_of first
-  swept_unfit s tick h = (rw h refl, (rw h refl, rw h refl))
+  pub swept_unfit : (s : Sender) (tick : ℕ) → consistent_of w w s ≡ false → Sweeps s tick (Err Unsound) s
+  unfolding sweep_answer sweep_of first
+  swept_unfit s tick h = (settled_refused Unsound _ _ (rw h refl), rw h refl)
 
   pub swept_fit : (s q : Sender) (tick count : ℕ) (flags : List Bool) → consistent_of w w s ≡ true → count ≡ count_below (becomes_lost w s tick) w → FlagsLostIn w s tick flags 0
-      → q ≡ turned_of w losing (chosen_by w flags 0) s → Sweeps s tick 0 count q
+      → q ≡ turned_of w losing (chosen_by w flags 0) s → Sweeps s tick (Ok count) q
   unfolding sweep_answer sweep_count sweep_of first
   swept_fit s q tick count flags h e l r =
       let t : q ≡ turned_of w losing (loses_at w s tick) s =
       r ∙ turned_ext w losing (chosen_by w flags 0) (loses_at w s tick) s (λ n a b. chosen_flag w flags n ∙ l.holds n (omega arith) b) in
-      (rw h refl, (rw h e, rw h t))
+      (rw (h, e) refl, rw h t)

@@ -2,12 +2,14 @@
 #![tactic(auto)]
 
 ghost use Rattle.std.specs.Prelude.{◌≡◌, true, cond, ◌+◌, ◌≤◌, ◌<◌, leb};
+ghost use Rattle.common.specs.Answer.{settled};
 ghost use Rattle.common.specs.Every.{count_below};
 ghost use Rattle.numbers.specs.Age.{reaches};
 ghost use Rattle.numbers.specs.Full.{past_highest};
 ghost use Rattle.sweeping.specs.FlagsLost.{FlagsLost};
 ghost use Rattle.sender.specs.Sweep.{becomes_lost, sweep_answer, sweep_count, sweep_of};
 
+use common::Refusal;
 use numbers::DataNumber;
 use sender::Sender;
 
@@ -20,26 +22,20 @@ pub struct Losses {
     pub count: u32,
 }
 
-// What the call answers, how many became lost, and the record; it stands first, which spares copies of it.
+// What the call answers, and the record; it stands first, which spares copies of it.
 #[derive(Clone, Copy)]
 pub struct Swept {
     // The record after the call.
     pub sender: Sender,
-    // How many became lost.
-    pub lost: u32,
-    // Document 01's number.
-    pub answer: u8,
+    // How many became lost, or why none.
+    pub lost: Result<u32, Refusal>,
 }
 
 // Is a number lost if it is pending, with so many higher ones received?
 fn loses(higher: u32, timeout: u32, tick: u32, sent: u32) -> bool
     ensures { result ≡ cond (leb 3 higher) true (reaches timeout tick sent) }
 {
-    if 3 <= higher {
-        return true;
-    }
-    let age = numbers::age(tick, sent);
-    timeout <= age
+    3 <= higher || timeout <= numbers::age(tick, sent)
 }
 
 // One more where both hold.
@@ -47,12 +43,7 @@ fn counted(n: u32, a: bool, b: bool) -> u32
     requires { n < 32 }
     ensures { result ≡ cond a (cond b (n + 1) n) n }
 {
-    if a {
-        if b {
-            return n + 1;
-        }
-    }
-    n
+    if a && b { n + 1 } else { n }
 }
 
 // Judges every number on the record as it stands, with a running count of the received ones above it.
@@ -63,11 +54,9 @@ fn judge_all(s: Sender, tick: u32) -> Losses
     let mut flags = [false; 32];
     let mut count: u32 = 0;
     let mut higher: u32 = 0;
-    let mut i: u64 = DataNumber::WINDOW;
-    while 0 < i {
-        i -= 1;
+    for i in (0..DataNumber::WINDOW).rev() {
         let n = s.low.0 + i;
-        let at = window::data_place(DataNumber(n));
+        let at = window::place(DataNumber(n));
         let p = s.numbers[at];
         let lost = loses(higher, s.timeout, tick, p.tick);
         flags[at] = lost;
@@ -82,15 +71,13 @@ fn judge_all(s: Sender, tick: u32) -> Losses
 
 // Pending numbers that are lost at this tick turn lost, and their blocks wait. The one refusal is 13.
 pub fn sweep(s: Sender, tick: u32) -> Swept
-    ensures answer { result.answer ≡ sweep_answer 32 32 s }
-    ensures lost { result.lost ≡ sweep_count 32 32 s tick }
+    ensures lost { result.lost ≡ settled (sweep_answer 32 32 s) (sweep_count 32 32 s tick) }
     ensures record { result.sender ≡ sweep_of 32 32 s tick }
 {
     if !sender_checking::consistent(s) {
         return Swept {
             sender: s,
-            lost: 0,
-            answer: 13,
+            lost: Err(Refusal::Unsound),
         };
     }
     let l = judge_all(s, tick);
@@ -98,7 +85,6 @@ pub fn sweep(s: Sender, tick: u32) -> Swept
     let q = turning::turn(s, flags, 0, sender::LOST, sender::WAITING);
     Swept {
         sender: q,
-        lost: l.count,
-        answer: 0,
+        lost: Ok(l.count),
     }
 }

@@ -7,7 +7,7 @@ ghost use Rattle.numbers.specs.Full.{past_highest};
 ghost use Rattle.receiver.specs.Record.{state};
 ghost use Rattle.receiver.specs.Take.{take_answer, block_due, receiver_taken, taken_of};
 
-use common::Written;
+use common::Refusal;
 use numbers::ChannelNumber;
 use receiver::{Hold, Receiver};
 
@@ -17,7 +17,7 @@ pub struct Taken {
     // The record after the call.
     pub receiver: Receiver,
     // The refusal, or how many bytes were copied out.
-    pub written: Written,
+    pub written: Result<usize, Refusal>,
 }
 
 // The record without the block due; the next one is due.
@@ -25,7 +25,7 @@ fn freed(r: Receiver) -> Receiver
     requires { r.due.0 ≤ past_highest }
     ensures { result ≡ receiver_taken 32 r }
 {
-    let at = window::channel_place(r.due);
+    let at = window::place(r.due);
     let next = ChannelNumber(r.due.0 + 1);
     let mut q = r;
     q.holds[at] = Hold { held: 0, length: 0 };
@@ -42,22 +42,22 @@ pub fn take(r: Receiver, store: &[u8], out: &mut [u8]) -> Taken
     if !window::sound(receiver_checking::consistent(r), store.len()) {
         return Taken {
             receiver: r,
-            written: Written::Refused(13),
+            written: Err(Refusal::Unsound),
         };
     }
-    let at = window::channel_place(r.due);
+    let at = window::place(r.due);
     let h = r.holds[at];
     if h.held != 1 {
         return Taken {
             receiver: r,
-            written: Written::Refused(11),
+            written: Err(Refusal::Nothing),
         };
     }
     let n = h.length as usize;
     if out.len() < n {
         return Taken {
             receiver: r,
-            written: Written::Refused(14),
+            written: Err(Refusal::Room),
         };
     }
     let from = at * window::PLACE;
@@ -65,6 +65,6 @@ pub fn take(r: Receiver, store: &[u8], out: &mut [u8]) -> Taken
     let q = freed(r);
     Taken {
         receiver: q,
-        written: Written::Wrote(k),
+        written: Ok(k),
     }
 }

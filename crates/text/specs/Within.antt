@@ -1,13 +1,13 @@
 -- Text laid over a buffer, with a bound on how much: one part after another, and what a call answers that copies the whole out.
-use Rattle.std.specs.Prelude.{ℕ, ◌+◌, ◌^◌, ◌≤◌, ◌<◌, Bool, true, false, List, [], ◌∷◌, ◌++◌, ◌≡◌, take, drop, ltb}
+use Rattle.common.specs.declared.Refusal.TheVariants.{Room}
+use Rattle.std.specs.Prelude.{ℕ, ◌+◌, ◌^◌, ◌≤◌, ◌<◌, Bool, true, false, List, [], ◌∷◌, ◌++◌, ◌≡◌, take, drop, ltb, Err, Ok}
 use Rattle.std.proofs.Common.{append_assoc, append-nil, sym, ◌∙◌, arith, take_at}
 use Rattle.std.proofs.Math.Path.{refl, ap}
 use borrow.Author.Tests.{ltb-false, lt-ltb, le-ltb}
 use Rattle.std.proofs.Math.ListN.{length}
-use Rattle.common.specs.declared.Written.TheVariants.{Refused, Wrote}
 use Rattle.common.specs.Put.{joined, put_of, put_front}
 use Rattle.common.specs.Order.{test, first}
-use Rattle.common.specs.Answer.{written_of, left_of, room_answer}
+use Rattle.common.specs.Answer.{written_of, left_of, room_answer, written_refused}
 use Rattle.common.specs.Laid.{Laid, laid_then, laid_length}
 use Rattle.text.specs.Ascii.{ascii}
 use Rattle.text.specs.Decimal.{decimal_of}
@@ -78,27 +78,27 @@ module _ {k n : ℕ} {b z e : List ℕ} (l : LaidWithin k b z 0 e n) where
   text_within = omega (arith, text_end, l.room)
 
   pub text_short : (out : List ℕ) → length out < n
-      → (Refused 14 ≡ written_of (room_answer b (length out)) b) × (out ≡ left_of (room_answer b (length out)) b out)
+      → (Err Room ≡ written_of (room_answer b (length out)) b) × (out ≡ left_of (room_answer b (length out)) b out)
   unfolding room_answer first written_of left_of
   text_short out h =
       let g : length out < length b = omega (arith, text_end) in
       let t = lt-ltb (length out) (length b) g in
-      (rw t refl, rw t refl)
+      (written_refused Room _ b (rw t refl), rw t refl)
 
   pub text_fits : (out : List ℕ) {now : List ℕ} → n ≤ length out → now ≡ put_of out 0 (take n e)
-      → (Wrote n ≡ written_of (room_answer b (length out)) b) × (now ≡ left_of (room_answer b (length out)) b out)
+      → (Ok n ≡ written_of (room_answer b (length out)) b) × (now ≡ left_of (room_answer b (length out)) b out)
   unfolding room_answer first written_of left_of
   text_fits out h p =
       let g : length b ≤ length out = omega (arith, text_end) in
       let t = le-ltb (length out) (length b) g in
-      (rw t (ap Wrote text_end), rw t (p ∙ ap (put_of out 0) text_front))
+      (rw (t, text_end) refl, rw t (p ∙ ap (put_of out 0) text_front))
 
 -- what such a call wrote fits
-by_room : (k room : ℕ) (b : List ℕ) (t : Bool) → ltb room (length b) ≡ t → Wrote k ≡ written_of (first (test t 14 ∷ [])) b → k ≤ room
+by_room : (k room : ℕ) (b : List ℕ) (t : Bool) → ltb room (length b) ≡ t → Ok k ≡ written_of (first (test t 14 ∷ [])) b → k ≤ room
 unfolding first written_of
 by_room k room b true e w = let z : ◌≡◌ {A = ℕ} 0 1 = cc in absurd (omega arith)
 by_room k room b false e w = let l : k ≡ length b = cc in omega (arith, ltb-false room (length b) e)
 
-pub wrote_fits : (k room : ℕ) (b : List ℕ) → Wrote k ≡ written_of (room_answer b room) b → k ≤ room
+pub wrote_fits : (k room : ℕ) (b : List ℕ) → Ok k ≡ written_of (room_answer b room) b → k ≤ room
 unfolding room_answer
 wrote_fits k room b w = by_room k room b (ltb room (length b)) refl w

@@ -12,17 +12,18 @@ pub fn decimal(out: &mut [u8], at: usize, n: u64) -> usize
     requires { at + 20 ≤ length out.old }
     ensures { Laid out.old at (decimal_of n) out.new result }
 {
-    // The digits are found from the last to the first, so they fill the array from its end.
+    // The digits are found from the last to the first, so they fill the array from its end. What is left of the number, and not the place, ends
+    // the loop: a `for` over the places would need a return within it, and an answer for a number of more than 20 digits.
     let mut digits = [0u8; 20];
     let mut i: usize = 20;
     let mut rest = n;
     while 10 <= rest {
         i -= 1;
-        digits[i] = 48 + (rest % 10) as u8;
+        digits[i] = b'0' + (rest % 10) as u8;
         rest /= 10;
     }
     i -= 1;
-    digits[i] = 48 + rest as u8;
+    digits[i] = b'0' + rest as u8;
     common::lay(out, at, &digits[i..])
 }
 

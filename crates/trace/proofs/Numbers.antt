@@ -6,32 +6,23 @@ use mathlib.Core.Path.{◌≡◌, refl, sym, ◌∙◌, ap}
 use native.Mathlib.Numerals.{add-one}
 use native.Mathlib.Omega.{arith}
 use borrow.Author.Tests.{leb-true, lt-ltb, le-ltb, ltb-false, eq-eqb, ne_eqb}
-use lib.ListN.{length, take, drop, get_or, length-drop, drop_of_length-le}
-use lib.Seq.{drop-cons, drop-drop}
+use lib.ListN.{length, take, drop, get_or, length-take, drop_of_length-le}
+use lib.Seq.{drop-cons}
+use lib.Pointwise.{pointwise}
 use lib.Dec.{eqb, ltb, leb}
 use Rattle.common.specs.Choice.{when, unless}
 use Rattle.common.specs.EveryLaws.{every_fails, all_every}
 use Rattle.common.specs.Facts.{clash}
 use Rattle.text.specs.Ascii.{ascii}
 use Rattle.text.specs.Decimal.{value_from, value_of}
-use Rattle.trace.specs.declared.Value.{Value}
-use Rattle.trace.specs.declared.Value.TheVariants.{Bad, Given}
-use Rattle.trace.specs.declared.Pair.TheVariants as pair
+use Rattle.std.specs.Prelude.{Option, None, Some}
 use Rattle.trace.specs.Lines.{up_to, past}
-use Rattle.trace.specs.LinesLaws.{up_to_take, past_drop}
-use Rattle.trace.specs.Words.{starts_with}
+use Rattle.trace.specs.LinesLaws.{up_to_length, up_to_take, past_drop}
 use Rattle.trace.specs.WordsLaws.{to_end}
+use Rattle.trace.proofs.Words.{prefix_eq}
 use Rattle.trace.specs.Numbers.{is_digit, all_digits, leading_zero, is_number, number_of, number_under, on_number, pair_of, first_of}
 
--- a byte below `0`, and any other
-pub digit_low : (b : ℕ) → b < 48 → false ≡ is_digit b
-unfolding is_digit
-digit_low b h = when _ _ _ _ (lt-ltb b 48 h) refl
-
-pub digit_high : (b : ℕ) → 48 ≤ b → leb b 57 ≡ is_digit b
-unfolding is_digit
-digit_high b h = unless _ _ _ _ (le-ltb b 48 h) refl
-
+-- a digit is not below `0`, nor above `9`
 pub digit_range : (b : ℕ) → is_digit b ≡ true → (48 ≤ b) × (b ≤ 57)
 unfolding is_digit
 digit_range b = go (ltb b 48) refl
@@ -89,82 +80,86 @@ leads_other ds h = rw (ne_eqb (get_or ds 0 0) 48 h) (go (ltb 1 (length ds)))
 tests : List ℕ → List Bool
 tests ds = not (eqb (length ds) 0) ∷ not (leading_zero ds) ∷ all_digits ds ∷ ltb (value_of ds) 4294967296 ∷ []
 
-number_fails : (ds : List ℕ) (i : ℕ) → get_or (tests ds) i true ≡ false → Bad ≡ number_of ds
+number_fails : (ds : List ℕ) (i : ℕ) → get_or (tests ds) i true ≡ false → None ≡ number_of ds
 unfolding number_of is_number tests
 number_fails ds i h = unless _ _ _ _ (sym (every_fails (tests ds) i h)) refl
 
-pub number_empty : (ds : List ℕ) → length ds ≡ 0 → Bad ≡ number_of ds
+pub number_empty : (ds : List ℕ) → length ds ≡ 0 → None ≡ number_of ds
 unfolding tests
 number_empty ds h = number_fails ds 0 (ap not (eq-eqb (length ds) 0 h))
 
-pub number_leads : (ds : List ℕ) → 1 < length ds → get_or ds 0 0 ≡ 48 → Bad ≡ number_of ds
+pub number_leads : (ds : List ℕ) → 1 < length ds → get_or ds 0 0 ≡ 48 → None ≡ number_of ds
 unfolding tests leading_zero
 number_leads ds h e = number_fails ds 1 (rw (lt-ltb 1 (length ds) h, eq-eqb (get_or ds 0 0) 48 e) refl)
 
-pub number_other : (ds : List ℕ) → false ≡ all_digits ds → Bad ≡ number_of ds
+pub number_other : (ds : List ℕ) → false ≡ all_digits ds → None ≡ number_of ds
 unfolding tests
 number_other ds e = number_fails ds 2 (sym e)
 
 -- the value passes the highest already with the digit at place i
 pub number_large : (ds : List ℕ) (i v : ℕ) → i < length ds → value_from v (drop i ds) ≡ value_of ds → 4294967295 < v * 10 + (get_or ds i 0 - 48)
-    → Bad ≡ number_of ds
+    → None ≡ number_of ds
 unfolding tests
 number_large ds i v l e h =
     let g : 4294967296 ≤ value_of ds = omega (arith, value_more ds i v l, value_grows (v * 10 + (get_or ds i 0 - 48)) (drop (i + 1) ds)) in
     number_fails ds 3 (le-ltb (value_of ds) 4294967296 g)
 
 pub number_given : (ds : List ℕ) (v : ℕ) → (length ds ≡ 0 → ⊥) → leading_zero ds ≡ false → true ≡ all_digits ds → v ≡ value_of ds → v ≤ 4294967295
-    → Given v ≡ number_of ds
+    → Some v ≡ number_of ds
 unfolding number_of is_number
 number_given ds v some lead digits e h =
     let l : value_of ds < 4294967296 = omega arith in
-    when _ _ _ _ (all_every _ (ap not (ne_eqb (length ds) 0 some), (ap not lead, (sym digits, (lt-ltb (value_of ds) 4294967296 l, tt))))) (ap Given e)
+    when _ _ _ _ (all_every _ (ap not (ne_eqb (length ds) 0 some), (ap not lead, (sym digits, (lt-ltb (value_of ds) 4294967296 l, tt))))) (ap Some e)
 
--- the number under a key
-pub under_other : (key l : List ℕ) → starts_with key l ≡ false → Bad ≡ number_under key l
+-- the number under a key, which `strip_prefix` takes from the line
+pub under_other : (key l : List ℕ) → pointwise eqb (take (length key) l) key ≡ false → None ≡ number_under key l
 unfolding number_under
-under_other key l h = unless _ _ _ _ h refl
+under_other key l h = unless _ _ _ _ (sym (prefix_eq key l) ∙ h) refl
 
-pub under_key : {v : Value} (key l : List ℕ) → starts_with key l ≡ true → v ≡ number_of (take (length l - length key) (drop (length key) l))
+pub under_key : {v : Option ℕ} (key l t : List ℕ) → pointwise eqb (take (length key) l) key ≡ true → t ≡ drop (length key) l → v ≡ number_of t
     → v ≡ number_under key l
 unfolding number_under
-under_key key l h e = when _ _ _ _ h (e ∙ ap number_of (to_end (length key) l))
+under_key key l t h p e = when _ _ _ _ (sym (prefix_eq key l) ∙ h) (e ∙ ap number_of p)
 
 -- two numbers, of which the second is badly written
-no_second : (v w : Value) → Bad ≡ w → pair.Bad ≡ on_number v (λ d. on_number w (λ c. pair.Both d c) pair.Bad) pair.Bad
-no_second (Given d) w e = rw (← e) refl
-no_second Bad w e = refl
+no_second : (v w : Option ℕ) → None ≡ w → ◌≡◌ {A = Option (ℕ × ℕ)} None (on_number v (λ d. on_number w (λ c. Some (d, c)) None) None)
+no_second (Some d) w e = rw (← e) refl
+no_second None w e = refl
 
-pub first_other : (l : List ℕ) → starts_with (ascii "first=") l ≡ false → pair.Bad ≡ first_of l
+pub first_other : (l : List ℕ) → pointwise eqb (take 6 l) (ascii "first=") ≡ false → None ≡ first_of l
 unfolding first_of
-first_other l h = unless _ _ _ _ h refl
+first_other l h = unless _ _ _ _ (sym (prefix_eq (ascii "first=") l) ∙ h) refl
 
--- the two numbers around the comma that was found
-module _ (l : List ℕ) (comma : ℕ) (key : starts_with (ascii "first=") l ≡ true) (at : comma ≡ 6 + length (up_to 44 (drop 6 l))) where
-  before_comma : take (comma - 6) (drop 6 l) ≡ up_to 44 (drop 6 l)
+pub comma_within : (t : List ℕ) (comma : ℕ) → comma ≡ 0 + length (up_to 44 t) → comma ≤ length t
+comma_within t comma at = omega (arith, up_to_length 44 t)
+
+-- the two numbers around the comma that was found in what stands behind the key
+module _ (l t : List ℕ) (comma : ℕ) (key : pointwise eqb (take 6 l) (ascii "first=") ≡ true) (rest : t ≡ drop 6 l) (at : comma ≡ 0 + length (up_to 44 t)) where
+  before_comma : take comma t ≡ up_to 44 (drop 6 l)
   before_comma =
-      let e : comma - 6 ≡ length (up_to 44 (drop 6 l)) = omega arith in
-      rw e (sym (up_to_take 44 (drop 6 l)))
+      let e : comma ≡ length (up_to 44 t) = omega arith in
+      rw e (sym (up_to_take 44 t)) ∙ ap (up_to 44) rest
 
-  behind_comma : take (length l - (comma + 1)) (drop (comma + 1) l) ≡ past 44 (drop 6 l)
+  behind_comma : take (length t - (comma + 1)) (drop (comma + 1) t) ≡ past 44 (drop 6 l)
   behind_comma =
-      let e : comma + 1 ≡ 6 + (length (up_to 44 (drop 6 l)) + 1) = omega arith in
-      to_end (comma + 1) l
-      ∙ rw (e, past_drop 44 (drop 6 l)) (sym (drop-drop (length (up_to 44 (drop 6 l)) + 1) 6 l))
+      let e : comma ≡ length (up_to 44 t) = omega arith in
+      to_end (comma + 1) t ∙ rw e (sym (past_drop 44 t)) ∙ ap (past 44) rest
 
-  pub first_data_bad : Bad ≡ number_of (take (comma - 6) (drop 6 l)) → pair.Bad ≡ first_of l
+  pub first_data_bad : None ≡ number_of (take comma t) → None ≡ first_of l
   unfolding first_of pair_of
-  first_data_bad e = when _ _ _ _ key (rw (← (e ∙ ap number_of before_comma)) refl)
+  first_data_bad e = when _ _ _ _ (sym (prefix_eq (ascii "first=") l) ∙ key) (rw (← (e ∙ ap number_of before_comma)) refl)
 
-  pub first_channel_bad : Bad ≡ number_of (take (length l - (comma + 1)) (drop (comma + 1) l)) → pair.Bad ≡ first_of l
+  pub first_channel_bad : None ≡ number_of (take (length t - (comma + 1)) (drop (comma + 1) t)) → None ≡ first_of l
   unfolding first_of pair_of
-  first_channel_bad e = when _ _ _ _ key (no_second (number_of (up_to 44 (drop 6 l))) (number_of (past 44 (drop 6 l))) (e ∙ ap number_of behind_comma))
+  first_channel_bad e =
+      when _ _ _ _ (sym (prefix_eq (ascii "first=") l) ∙ key)
+      (no_second (number_of (up_to 44 (drop 6 l))) (number_of (past 44 (drop 6 l))) (e ∙ ap number_of behind_comma))
 
-  pub first_no_comma : length l ≤ comma → pair.Bad ≡ first_of l
-  first_no_comma h =
-      first_channel_bad (number_empty _ (ap length (to_end (comma + 1) l) ∙ omega (arith, length-drop (comma + 1) l)))
+  pub first_no_comma : comma ≡ length t → None ≡ first_of l
+  first_no_comma h = first_channel_bad (number_empty _ (omega (arith, length-take (length t - (comma + 1)) (drop (comma + 1) t))))
 
-  pub first_both : (d c : ℕ) → Given d ≡ number_of (take (comma - 6) (drop 6 l))
-      → Given c ≡ number_of (take (length l - (comma + 1)) (drop (comma + 1) l)) → pair.Both d c ≡ first_of l
+  pub first_both : (d c : ℕ) → Some d ≡ number_of (take comma t)
+      → Some c ≡ number_of (take (length t - (comma + 1)) (drop (comma + 1) t)) → Some (d, c) ≡ first_of l
   unfolding first_of pair_of
-  first_both d c e f = when _ _ _ _ key (rw (← (e ∙ ap number_of before_comma), ← (f ∙ ap number_of behind_comma)) refl)
+  first_both d c e f =
+      when _ _ _ _ (sym (prefix_eq (ascii "first=") l) ∙ key) (rw (← (e ∙ ap number_of before_comma), ← (f ∙ ap number_of behind_comma)) refl)

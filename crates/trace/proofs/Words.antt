@@ -1,18 +1,21 @@
 -- Bytes one by one: looking for one, and comparing two runs of them.
 use Prim.Native.Nat.{ℕ, ◌+◌, ◌≤◌, ◌<◌}
-use mathlib.Core.Bool.{true, false}
-use mathlib.Core.List.{List}
-use mathlib.Core.Path.{◌≡◌, refl, sym}
+use mathlib.Core.Bool.{Bool, true, false, cond, ◌&&◌}
+use mathlib.Core.List.{List, [], ◌∷◌}
+use mathlib.Core.Path.{◌≡◌, refl, sym, ◌∙◌}
 use native.Mathlib.Nat.{add-zero}
 use native.Mathlib.Numerals.{add-one}
 use native.Mathlib.Omega.{arith}
 use borrow.Author.Tests.{eq-eqb, ne_eqb}
-use lib.ListN.{length, drop, get_or, drop_of_length-le}
+use lib.ListN.{length, take, drop, get_or, drop_of_length-le}
 use lib.Seq.{drop-cons}
-use Rattle.common.specs.Facts.{not_so}
+use lib.Dec.{eqb}
+use lib.Pointwise.{pointwise}
 use Rattle.trace.specs.Lines.{up_to}
 use Rattle.trace.specs.Words.{same, starts_with}
-use Rattle.trace.specs.WordsLaws.{same_length, starts_length}
+
+eqb_turned : (x y : ℕ) → eqb x y ≡ eqb y x
+eqb_turned x y = grind arith
 
 -- x stands at place i, or does not, or no byte does
 pub up_to_here : (x : ℕ) (b : List ℕ) (i : ℕ) → i < length b → get_or b i 0 ≡ x → i ≡ i + length (up_to x (drop i b))
@@ -28,29 +31,29 @@ pub up_to_none : (x : ℕ) (b : List ℕ) (i : ℕ) → length b ≤ i → i ≡
 unfolding up_to
 up_to_none x b i h = rw (drop_of_length-le b h) (sym (add-zero i))
 
--- two runs differ in length, or at place i; or agree there, or have no more bytes
-pub same_sizes : (a b : List ℕ) → (length a ≡ length b → ⊥) → false ≡ same a b
-same_sizes a b h = sym (not_so (same a b) (λ t. h (same_length a b t)))
-
-pub same_differ : (a b : List ℕ) (i : ℕ) → length a ≡ length b → i < length a → (get_or a i 0 ≡ get_or b i 0 → ⊥) → false ≡ same (drop i a) (drop i b)
+same_turned : (a b : List ℕ) → same a b ≡ same b a
 unfolding same
-same_differ a b i l h e =
-    let g : i < length b = omega arith in
-    rw (drop-cons a i 0 h, drop-cons b i 0 g, ne_eqb (get_or a i 0) (get_or b i 0) e) refl
+same_turned [] [] = refl
+same_turned [] (y ∷ ys) = refl
+same_turned (x ∷ xs) [] = refl
+same_turned (x ∷ xs) (y ∷ ys) = rw (eqb_turned x y, same_turned xs ys) refl
 
-pub same_agree : (a b : List ℕ) (i : ℕ) → length a ≡ length b → i < length a → get_or a i 0 ≡ get_or b i 0
-    → same (drop (i + 1) a) (drop (i + 1) b) ≡ same (drop i a) (drop i b)
+-- the same bytes, as the library's `==` tells them, and as its `starts_with` does
+pub same_eq : (a b : List ℕ) → pointwise eqb a b ≡ same a b
 unfolding same
-same_agree a b i l h e =
-    let g : i < length b = omega arith in
-    rw (drop-cons a i 0 h, drop-cons b i 0 g, eq-eqb (get_or a i 0) (get_or b i 0) e, add-one i) refl
+same_eq [] [] = refl
+same_eq [] (y ∷ ys) = refl
+same_eq (x ∷ xs) [] = refl
+same_eq (x ∷ xs) (y ∷ ys) = go (eqb x y) (same_eq xs ys)
+  where
+    go : (t : Bool) → pointwise eqb xs ys ≡ same xs ys → (t && pointwise eqb xs ys) ≡ cond t (same xs ys) false
+    go true e = e
+    go false e = refl
 
-pub same_done : (a b : List ℕ) (i : ℕ) → length a ≡ length b → length a ≤ i → true ≡ same (drop i a) (drop i b)
-unfolding same
-same_done a b i l h =
-    let g : length b ≤ i = omega arith in
-    rw (drop_of_length-le a h, drop_of_length-le b g) refl
+pub prefix_eq : (key l : List ℕ) → pointwise eqb (take (length key) l) key ≡ starts_with key l
+unfolding starts_with
+prefix_eq key l = same_eq (take (length key) l) key
 
--- a line shorter than the key
-pub starts_short : (key l : List ℕ) → length l < length key → false ≡ starts_with key l
-starts_short key l h = sym (not_so (starts_with key l) (λ t. omega (arith, starts_length key l t)))
+pub starts_eq : (key l : List ℕ) → pointwise eqb key (take (length key) l) ≡ starts_with key l
+unfolding starts_with
+starts_eq key l = same_eq key (take (length key) l) ∙ same_turned key (take (length key) l)

@@ -1,12 +1,8 @@
 -- "Numbers are decimal, without leading zeros, below 2^32."
-use Rattle.std.specs.Prelude.{ℕ, Bool, true, false, cond, not, List, [], ◌∷◌, length, drop, get_or, eqb, ltb, leb}
+use Rattle.std.specs.Prelude.{ℕ, Bool, true, false, cond, not, List, [], ◌∷◌, length, drop, get_or, eqb, ltb, leb, Option, None, Some}
 use Rattle.common.specs.Every.{every}
 use Rattle.text.specs.Ascii.{ascii}
 use Rattle.text.specs.Decimal.{value_of}
-use Rattle.trace.specs.declared.Value.{Value}
-use Rattle.trace.specs.declared.Value.TheVariants.{Bad, Given}
-use Rattle.trace.specs.declared.Pair.{Pair}
-use Rattle.trace.specs.declared.Pair.TheVariants as pair
 use Rattle.trace.specs.Lines.{up_to, past}
 use Rattle.trace.specs.Words.{starts_with}
 
@@ -26,26 +22,26 @@ unfoldable pub is_number : List ℕ → Bool
 is_number ds =
     every (not (eqb (length ds) 0) ∷ not (leading_zero ds) ∷ all_digits ds ∷ ltb (value_of ds) 4294967296 ∷ [])
 
-unfoldable pub number_of : List ℕ → Value
-number_of ds = cond (is_number ds) (Given (value_of ds)) Bad
+unfoldable pub number_of : List ℕ → Option ℕ
+number_of ds = cond (is_number ds) (Some (value_of ds)) None
 
 -- the number behind a key
-unfoldable pub number_under : List ℕ → List ℕ → Value
-number_under key l = cond (starts_with key l) (number_of (drop (length key) l)) Bad
+unfoldable pub number_under : List ℕ → List ℕ → Option ℕ
+number_under key l = cond (starts_with key l) (number_of (drop (length key) l)) None
 
 -- what follows a number that is well written, and what if it is not
-abbrev pub on_number : {A : Type 0} → Value → (ℕ → A) → A → A
-on_number (Given n) f a = f n
-on_number Bad f a = a
+abbrev pub on_number : {A : Type 0} → Option ℕ → (ℕ → A) → A → A
+on_number (Some n) f a = f n
+on_number None f a = a
 
 -- two numbers around the first comma
-unfoldable pub pair_of : List ℕ → Pair
-pair_of t = on_number (number_of (up_to 44 t)) (λ d. on_number (number_of (past 44 t)) (λ c. pair.Both d c) pair.Bad) pair.Bad
+unfoldable pub pair_of : List ℕ → Option (ℕ × ℕ)
+pair_of t = on_number (number_of (up_to 44 t)) (λ d. on_number (number_of (past 44 t)) (λ c. Some (d, c)) None) None
 
 -- "`first=D,C` (the two first numbers)"
-unfoldable pub first_of : List ℕ → Pair
-first_of l = cond (starts_with (ascii "first=") l) (pair_of (drop 6 l)) pair.Bad
+unfoldable pub first_of : List ℕ → Option (ℕ × ℕ)
+first_of l = cond (starts_with (ascii "first=") l) (pair_of (drop 6 l)) None
 
-abbrev pub on_pair : {A : Type 0} → Pair → (ℕ → ℕ → A) → A → A
-on_pair (pair.Both d c) f a = f d c
-on_pair pair.Bad f a = a
+abbrev pub on_pair : {A : Type 0} → Option (ℕ × ℕ) → (ℕ → ℕ → A) → A → A
+on_pair (Some (d, c)) f a = f d c
+on_pair None f a = a

@@ -1,12 +1,10 @@
 -- What the writer writes the reader's calls read back, line by line: `next` over the lines, and where data is due `read` and then `behind_data`, gather the same
 -- head and events.
-use Rattle.std.specs.Prelude.{ℕ, ◌<◌, Bool, true, false, cond, List, [], ◌∷◌, ◌++◌, ◌≡◌, eqb, length}
+use Rattle.std.specs.Prelude.{ℕ, ◌<◌, Bool, true, false, cond, List, [], ◌∷◌, ◌++◌, ◌≡◌, eqb, length, Some}
 use Rattle.std.proofs.Common.{append_assoc, append-nil, sym, ◌∙◌, ap, arith, eq-eqb, ne_eqb}
 use Rattle.std.proofs.Math.Path.{refl}
 use Rattle.text.specs.Ascii.{ascii}
 use Rattle.trace.specs.declared.Cursor.{Cursor}
-use Rattle.trace.specs.declared.Value.TheVariants.{Given}
-use Rattle.trace.specs.declared.Pair.TheVariants.{Both}
 use Rattle.trace.specs.Lines.{lines_of}
 use Rattle.trace.specs.Words.{same}
 use Rattle.trace.specs.Numbers.{number_under, first_of}
@@ -63,11 +61,11 @@ edition_line : gather_line (gathered (due_of fresh_cursor edition_due) []) (asci
 unfolding gather_line next_of at_edition same
 edition_line = refl
 
-first_line : (l : List ℕ) (d c : ℕ) → first_of l ≡ Both d c → gather_line (gathered (due_of fresh_cursor first_due) []) l ≡ gathered (first_read fresh_cursor d c) []
+first_line : (l : List ℕ) (d c : ℕ) → first_of l ≡ Some (d, c) → gather_line (gathered (due_of fresh_cursor first_due) []) l ≡ gathered (first_read fresh_cursor d c) []
 unfolding gather_line next_of at_first
 first_line l d c h = rw h refl
 
-timeout_line : (l : List ℕ) (d c t : ℕ) → number_under (ascii "timeout=") l ≡ Given t
+timeout_line : (l : List ℕ) (d c t : ℕ) → number_under (ascii "timeout=") l ≡ Some t
     → gather_line (gathered (first_read fresh_cursor d c) []) l ≡ gathered (timeout_read (first_read fresh_cursor d c) t) []
 unfolding gather_line next_of at_timeout
 timeout_line l d c t h = rw h refl
@@ -88,7 +86,7 @@ data_taken c l h = eq-eqb _ _ (sym (data_fits c.kind l (length (data_bytes l)) h
 
 -- the lines of an event
 module _ (c : Cursor) (done : List Event) where
-  tick_line : (l : List ℕ) (n : ℕ) → number_under (ascii "tick=") l ≡ Given n → gather_line (gathered (due_of c tick_due) done) l ≡ gathered (tick_read c n) done
+  tick_line : (l : List ℕ) (n : ℕ) → number_under (ascii "tick=") l ≡ Some n → gather_line (gathered (due_of c tick_due) done) l ≡ gathered (tick_read c n) done
   unfolding gather_line next_of at_tick
   tick_line l n h = rw h refl
 

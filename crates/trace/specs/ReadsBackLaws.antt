@@ -1,5 +1,5 @@
 -- What the parts of a written trace are read back to: lines, words, numbers, kinds and bytes.
-use Rattle.std.specs.Prelude.{ℕ, zero, suc, ◌+◌, ◌*◌, ◌-◌, ◌%◌, ◌/◌, ◌≤◌, ◌<◌, Bool, true, false, cond, not, List, [], ◌∷◌, ◌++◌, ◌≡◌, refl, eqb, ltb, length, get_or}
+use Rattle.std.specs.Prelude.{ℕ, zero, suc, ◌+◌, ◌*◌, ◌-◌, ◌%◌, ◌/◌, ◌≤◌, ◌<◌, Bool, true, false, cond, not, List, [], ◌∷◌, ◌++◌, ◌≡◌, refl, eqb, ltb, length, get_or, Some}
 use Rattle.std.proofs.Common.{append_assoc, append-nil, ⊎_elim, ◌∙◌, ap, arith, leb-true, eqb-true, lt-ltb, le-ltb, le-leb, eq-eqb, ne_eqb}
 use Rattle.std.proofs.lemmas.Bool.{lt-leb}
 use Rattle.std.proofs.Math.Seq.{take-append_seam, drop-append_seam}
@@ -9,8 +9,6 @@ use Rattle.common.specs.Order.{first}
 use Rattle.text.specs.Ascii.{ascii}
 use Rattle.text.specs.Decimal.{decimal_of, Digits, nil, digit}
 use Rattle.text.specs.Laws.{decimal_single, decimal_some, decimal_value, decimal_digits, decimal_first}
-use Rattle.trace.specs.declared.Value.TheVariants.{Given}
-use Rattle.trace.specs.declared.Pair.TheVariants.{Both}
 use Rattle.trace.specs.Hex.{is_hex, hex_value, all_hex, hex_good, hex_bytes, hex_digit, hex_text}
 use Rattle.trace.specs.Kinds.{kind_of, kind_text, is_kind, carries}
 use Rattle.trace.specs.Lines.{up_to, past, at_front, lines_of}
@@ -105,15 +103,15 @@ is_number_lem n h =
       (ap not (no_leading_zero n), (all_digits_lem (decimal_digits n), (rw decimal_value (lt-ltb n 4294967296 h), tt))),
     )
 
-number_back : (n : ℕ) → n < 4294967296 → number_of (decimal_of n) ≡ Given n
+number_back : (n : ℕ) → n < 4294967296 → number_of (decimal_of n) ≡ Some n
 unfolding number_of
 number_back n h = rw (is_number_lem n h, decimal_value) refl
 
-pub under_back : (key : List ℕ) (n : ℕ) → n < 4294967296 → number_under key (key ++ decimal_of n) ≡ Given n
+pub under_back : (key : List ℕ) (n : ℕ) → n < 4294967296 → number_under key (key ++ decimal_of n) ≡ Some n
 unfolding number_under
 under_back key n h = rw (starts_own, drop-append_seam) (number_back n h)
 
-pub first_back : (d c : ℕ) → d < 4294967296 → c < 4294967296 → first_of (ascii "first=" ++ (decimal_of d ++ (44 ∷ decimal_of c))) ≡ Both d c
+pub first_back : (d c : ℕ) → d < 4294967296 → c < 4294967296 → first_of (ascii "first=" ++ (decimal_of d ++ (44 ∷ decimal_of c))) ≡ Some (d, c)
 unfolding first_of pair_of starts_with same
 first_back d c h k =
     let l = digits_lack 44 (omega arith) (decimal_digits d) in

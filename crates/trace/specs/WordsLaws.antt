@@ -1,10 +1,9 @@
 -- Laws of words: which bytes are the same, and how long a line is that is accepted.
-use Rattle.std.specs.Prelude.{ℕ, ◌-◌, ◌≤◌, ◌<◌, Bool, true, false, cond, List, [], ◌∷◌, ◌≡◌, refl, length, take, drop, eqb}
+use Rattle.std.specs.Prelude.{ℕ, ◌-◌, ◌≤◌, ◌<◌, Bool, true, false, cond, List, [], ◌∷◌, ◌≡◌, refl, length, take, drop, eqb, None, Some}
 use Rattle.std.proofs.Common.{⊎_elim, sym, ◌∙◌, ap, arith, eq-eqb, eqb-true, length-take, length-drop, take_all}
 use Rattle.common.specs.Facts.{lt_or_ge, bool, clash, not_so}
 use Rattle.common.specs.Order.{first_skip, first_none}
 use Rattle.text.specs.Ascii.{ascii}
-use Rattle.trace.specs.declared.Value.TheVariants.{Bad, Given}
 use Rattle.trace.specs.Words.{same, starts_with}
 use Rattle.trace.specs.Numbers.{number_under}
 use Rattle.trace.specs.Kinds.{kind_of}
@@ -37,12 +36,12 @@ pub starts_length : (key l : List ℕ) → starts_with key l ≡ true → length
 unfolding starts_with
 starts_length key l h = omega (arith, length-take (length key) l, same_length (take (length key) l) key h)
 
-pub number_under_long : (key l : List ℕ) (n : ℕ) → number_under key l ≡ Given n → length key ≤ length l
+pub number_under_long : (key l : List ℕ) (n : ℕ) → number_under key l ≡ Some n → length key ≤ length l
 unfolding number_under
 number_under_long key l n h =
     ⊎_elim
     (λ t. starts_length key l t)
-    (λ (f : starts_with key l ≡ false). let b : Bad ≡ Given n = rw f at h in let z : ◌≡◌ {A = ℕ} 0 1 = cc in absurd (omega arith))
+    (λ (f : starts_with key l ≡ false). let b : None ≡ Some n = rw f at h in let z : ◌≡◌ {A = ℕ} 0 1 = cc in absurd (omega arith))
     (bool (starts_with key l))
 
 -- a line that names a kind has the five bytes of `kind=`

@@ -12,7 +12,7 @@ pub const FORMAT: [u8; 20] = *b"format=counter-trace";
 
 pub const EDITION: [u8; 9] = *b"edition=1";
 
-// Which line is due.
+// Which line is due. A number, and no enum, since callers may hand in a cursor with any and `next` leaves one with another as it is.
 pub const FORMAT_DUE: u8 = 0;
 
 pub const EDITION_DUE: u8 = 1;
@@ -33,7 +33,7 @@ pub const BROKEN: u8 = 7;
 // No line is due any more, since one of the head was refused.
 pub const HEADLESS: u8 = 8;
 
-// The kinds of event; 0 is none.
+// The kinds of event; 0 is none. Numbers, and no enum, since callers may hand in any and are answered by a refusal.
 pub const IN: u8 = 1;
 
 pub const SEND: u8 = 2;
@@ -47,10 +47,10 @@ pub const SWEEP: u8 = 5;
 pub const ACKNOWLEDGE: u8 = 6;
 
 // The byte that ends a line.
-pub const NEWLINE: u8 = 10;
+pub const NEWLINE: u8 = b'\n';
 
 // The highest number in a trace.
-pub const HIGHEST: u64 = 4294967295;
+pub const HIGHEST: u64 = u32::MAX as u64;
 
 // What stands between two lines: which line is due, and what the lines so far said.
 #[derive(Clone, Copy)]
@@ -69,30 +69,12 @@ pub struct Cursor {
     pub kind: u8,
 }
 
-// A number as it was written.
-#[derive(Clone, Copy)]
-pub enum Value {
-    // Badly written.
-    Bad,
-    Given(u32),
-}
-
-// Two numbers as they were written.
-#[derive(Clone, Copy)]
-pub enum Pair {
-    // Badly written.
-    Bad,
-    Both(u32, u32),
-}
-
 // Does an event of this kind have data?
+#[tactic(auto, unfolding(crate::specs::Kinds::carries))]
 pub fn has_data(kind: u8) -> bool
     ensures { result ≡ carries kind }
 {
-    if kind == IN {
-        return true;
-    }
-    kind == SEND
+    matches!(kind, IN | SEND)
 }
 
 // The cursor before the first line.
@@ -113,22 +95,17 @@ pub fn begin() -> Cursor
 pub fn waiting(c: Cursor, due: u8) -> Cursor
     ensures { result ≡ due_of c due }
 {
-    let mut r = c;
-    r.due = due;
-    r
+    Cursor { due, ..c }
 }
 
 // The cursor behind a line of data: the next tick is due where `trace_data::read` took the line, and no line any more where it was refused. Where no data
 // is due, the cursor stays as it is.
+#[tactic(auto, unfolding(crate::specs::Read::behind_data))]
 pub fn behind_data(c: Cursor, taken: bool) -> Cursor
     ensures { result ≡ behind_data c taken }
 {
-    let due = c.due;
-    if due != DATA_DUE {
+    if c.due != DATA_DUE {
         return c;
     }
-    if taken {
-        return waiting(c, TICK_DUE);
-    }
-    waiting(c, BROKEN)
+    waiting(c, if taken { TICK_DUE } else { BROKEN })
 }

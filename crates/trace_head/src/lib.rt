@@ -7,7 +7,7 @@ ghost use Rattle.text.specs.Ascii.{ascii};
 ghost use Rattle.text.specs.Within.{LaidWithin};
 ghost use Rattle.trace.specs.Write.{head_text};
 
-use common::Written;
+use common::Refusal;
 
 // The two lines that are always the same.
 fn fixed_lines(out: &mut [u8]) -> usize
@@ -31,8 +31,14 @@ fn head_lines(out: &mut [u8], firstdata: u32, firstchannel: u32, timeout: u32) -
     text::field(out, at3, b"timeout=", timeout as u64, b"\n")
 }
 
-// Writes the head of a trace: the two first numbers and the loss timeout that the endpoint was opened with. Refused with 14; 108 bytes always suffice.
-pub fn head(firstdata: u32, firstchannel: u32, timeout: u32, out: &mut [u8]) -> Written
+// Writes the head of a trace: the two first numbers and the loss timeout that the endpoint was opened with. Refused with 14; 108 bytes
+// always suffice.
+pub fn head(
+    firstdata: u32,
+    firstchannel: u32,
+    timeout: u32,
+    out: &mut [u8],
+) -> Result<usize, Refusal>
     ensures answer { result ≡ written_of (room_answer (head_text firstdata firstchannel timeout) (length out.old)) (head_text firstdata firstchannel timeout) }
     ensures bytes { out.new ≡ left_of (room_answer (head_text firstdata firstchannel timeout) (length out.old)) (head_text firstdata firstchannel timeout) out.old }
     ensures bound { length (head_text firstdata firstchannel timeout) ≤ 108 }
@@ -40,8 +46,8 @@ pub fn head(firstdata: u32, firstchannel: u32, timeout: u32, out: &mut [u8]) -> 
     let mut text = [0u8; 108];
     let n = head_lines(&mut text, firstdata, firstchannel, timeout);
     if out.len() < n {
-        return Written::Refused(14);
+        return Err(Refusal::Room);
     }
     common::put(out, 0, &text[..n]);
-    Written::Wrote(n)
+    Ok(n)
 }

@@ -11,22 +11,14 @@ fn kind_word(out: &mut [u8], at: usize, kind: u8) -> usize
     requires { at + 6 ≤ length out.old }
     ensures { LaidWithin 6 (kind_text kind) out.old at out.new result }
 {
-    if kind == trace::IN {
-        return common::lay(out, at, b"in");
+    match kind {
+        trace::IN => common::lay(out, at, b"in"),
+        trace::SEND => common::lay(out, at, b"send"),
+        trace::RESEND => common::lay(out, at, b"resend"),
+        trace::TAKE => common::lay(out, at, b"take"),
+        trace::SWEEP => common::lay(out, at, b"sweep"),
+        _ => common::lay(out, at, b"ack"),
     }
-    if kind == trace::SEND {
-        return common::lay(out, at, b"send");
-    }
-    if kind == trace::RESEND {
-        return common::lay(out, at, b"resend");
-    }
-    if kind == trace::TAKE {
-        return common::lay(out, at, b"take");
-    }
-    if kind == trace::SWEEP {
-        return common::lay(out, at, b"sweep");
-    }
-    common::lay(out, at, b"ack")
 }
 
 // An event's lines up to its bytes.

@@ -5,8 +5,7 @@ use Rattle.trace.specs.declared.Cursor.{Cursor}
 use Rattle.trace.specs.Read.{timeout_due, tick_due, data_due, broken, fresh_cursor, due_of, next_of, behind_data, data_good, data_bytes}
 use Rattle.receiver.specs.declared.Receiver.{Receiver}
 use Rattle.sender.specs.declared.Sender.{Sender}
-use Rattle.endpoint.specs.declared.Opened.{Opened}
-use Rattle.endpoint.specs.Open.{fresh_pair, opened_of}
+use Rattle.endpoint.specs.Open.{Opens, fresh_pair, opened_of}
 use Rattle.endpoint.specs.Calls.{Endpoint, Call, call_of}
 use Rattle.endpoint.specs.Fresh.{endpoint_of}
 use Rattle.calling.specs.Asks.{call_by}
@@ -43,10 +42,10 @@ abbrev pub unopened : ℕ
 unopened = 9
 
 -- the head's last line opens the endpoint
-unfoldable pub opened_by : Cursor → Opened → ℕ
+unfoldable pub opened_by : Cursor → Opens → ℕ
 opened_by c o = cond (eqb o.answer 0) c.due unopened
 
-abbrev pub open_with : Cursor → Opened
+abbrev pub open_with : Cursor → Opens
 open_with c = opened_of 32 c.firstdata c.firstchannel c.timeout
 
 -- does the line between these two open the endpoint?

@@ -10,7 +10,7 @@ use receiver::Receiver;
 use sender::Sender;
 use trace::Cursor;
 
-// No line is due, since opening was refused.
+// No line is due, since opening was refused. A number, as the others that the cursor's `due` may be.
 pub const UNOPENED: u8 = 9;
 
 // What stands between two lines.
@@ -36,13 +36,11 @@ pub fn begin() -> State
 }
 
 // Does the line between these two open the endpoint?
+#[tactic(auto, unfolding(crate::specs::Steps::opens_at))]
 pub fn opens(due: u8, after: u8) -> bool
     ensures { result ≡ opens_at due after }
 {
-    if due == trace::TIMEOUT_DUE {
-        return after == trace::TICK_DUE;
-    }
-    false
+    due == trace::TIMEOUT_DUE && after == trace::TICK_DUE
 }
 
 // Opens the endpoint of a head that was read.
@@ -52,20 +50,13 @@ pub fn opened(c: Cursor) -> State
     ensures receiver { result.receiver ≡ (open_with c).receiver }
 {
     let x = endpoint::open(c.firstdata, c.firstchannel, c.timeout);
-    let sender = x.sender;
-    let receiver = x.receiver;
-    if x.answer != 0 {
-        let mut cursor = c;
-        cursor.due = UNOPENED;
-        return State {
-            cursor,
-            sender,
-            receiver,
-        };
-    }
     State {
-        cursor: c,
-        sender,
-        receiver,
+        cursor: if x.answer.is_err() {
+            trace::waiting(c, UNOPENED)
+        } else {
+            c
+        },
+        sender: x.sender,
+        receiver: x.receiver,
     }
 }

@@ -9,41 +9,24 @@ ghost use Rattle.trace.specs.Words.{same, starts_with};
 pub fn find(b: &[u8], from: usize, x: u8) -> usize
     ensures { result ≡ from + length (up_to x (drop from b.now)) }
 {
-    let mut i = from;
-    while i < b.len() {
+    for i in from..b.len() {
         if b[i] == x {
             return i;
         }
-        i += 1;
     }
-    i
+    from.max(b.len())
 }
 
 // Are these the same bytes?
 pub fn equals(a: &[u8], b: &[u8]) -> bool
     ensures { result ≡ same a.now b.now }
 {
-    let n = a.len();
-    if n != b.len() {
-        return false;
-    }
-    let mut i = 0;
-    while i < n {
-        if a[i] != b[i] {
-            return false;
-        }
-        i += 1;
-    }
-    true
+    a == b
 }
 
 // Does a line start with this key?
 pub fn starts(line: &[u8], key: &[u8]) -> bool
     ensures { result ≡ starts_with key.now line.now }
 {
-    let n = key.len();
-    if line.len() < n {
-        return false;
-    }
-    equals(&line[..n], key)
+    line.starts_with(key)
 }

@@ -5,7 +5,6 @@ use mathlib.Core.List.{List}
 use mathlib.Core.Logic.{⊎_elim}
 use mathlib.Core.Path.{◌≡◌, refl, sym, ◌∙◌, ap}
 use native.Mathlib.Omega.{arith}
-use native.Mathlib.Numerals.{add-one}
 use Rattle.common.specs.Facts.{bool, cond_none}
 use borrow.Author.Tests.{le-ltb}
 use lib.ListN.{get_or, set}
@@ -25,26 +24,33 @@ pub record Lows (s q : Sender) : Type 0 where
 
 module _ (w : ℕ) where
   -- the first i numbers from low on
-  pub turn_none : (t : Turn) (chosen : ℕ → Bool) (s : Sender) → s ≡ turn_up_to w t chosen s 0
+  pub turn_none : (t : Turn) (chosen : ℕ → Bool) (s : Sender) (i : ℕ) → i ≡ 0 → s ≡ turn_up_to w t chosen s i
   unfolding turn_up_to
-  turn_none t chosen s = refl
+  turn_none t chosen s i e = sym (ap (turn_up_to w t chosen s) e)
 
   abbrev turning : (ℕ → Bool) → Sender → ℕ → Bool
   turning chosen q n = cond (is_pending (number_at w q n)) (chosen n) false
 
-  pub turn_step : (t : Turn) (chosen : ℕ → Bool) (s q : Sender) (i : ℕ) → q ≡ turn_up_to w t chosen s i → turning chosen q (s.low.0 + i) ≡ true
-      → turned_at w t q (s.low.0 + i) ≡ turn_up_to w t chosen s (i + 1)
-  unfolding turn_up_to turn_one
-  turn_step t chosen s q i h e =
-      ap (λ (b : Bool). cond b (turned_at w t q (s.low.0 + i)) q) (sym e) ∙ ap (λ (x : Sender). turn_one w t chosen x (s.low.0 + i)) h
-      ∙ ap (turn_up_to w t chosen s) (sym (add-one i))
+  -- number n, the i-th from low on, has its turn
+  turn_here : (t : Turn) (chosen : ℕ → Bool) (s q : Sender) (i j n : ℕ) → n ≡ s.low.0 + i → j ≡ suc i → q ≡ turn_up_to w t chosen s i → turn_one w t chosen q n ≡ turn_up_to w t chosen s j
+  unfolding turn_up_to
+  turn_here t chosen s q i j n e f h =
+      ap (turn_one w t chosen q) e ∙ ap (λ (x : Sender). turn_one w t chosen x (s.low.0 + i)) h ∙ ap (turn_up_to w t chosen s) (sym f)
 
-  pub turn_skip : (t : Turn) (chosen : ℕ → Bool) (s q : Sender) (i : ℕ) → q ≡ turn_up_to w t chosen s i → turning chosen q (s.low.0 + i) ≡ false
-      → q ≡ turn_up_to w t chosen s (i + 1)
-  unfolding turn_up_to turn_one
-  turn_skip t chosen s q i h e =
-      ap (λ (b : Bool). cond b (turned_at w t q (s.low.0 + i)) q) (sym e) ∙ ap (λ (x : Sender). turn_one w t chosen x (s.low.0 + i)) h
-      ∙ ap (turn_up_to w t chosen s) (sym (add-one i))
+  turn_past : (t : Turn) (chosen : ℕ → Bool) (s q : Sender) (i j n : ℕ) → n ≡ s.low.0 + i → j ≡ suc i → q ≡ turn_up_to w t chosen s i → turning chosen q n ≡ false
+      → q ≡ turn_up_to w t chosen s j
+  unfolding turn_one
+  turn_past t chosen s q i j n e f h z = ap (λ (b : Bool). cond b (turned_at w t q n) q) (sym z) ∙ turn_here t chosen s q i j n e f h
+
+  pub turn_step : (t : Turn) (chosen : ℕ → Bool) (s q : Sender) (n : ℕ) → s.low.0 ≤ n → q ≡ turn_up_to w t chosen s (n - s.low.0) → turning chosen q n ≡ true
+      → turned_at w t q n ≡ turn_up_to w t chosen s (n + 1 - s.low.0)
+  unfolding turn_one
+  turn_step t chosen s q n l h z =
+      ap (λ (b : Bool). cond b (turned_at w t q n) q) (sym z) ∙ turn_here t chosen s q (n - s.low.0) (n + 1 - s.low.0) n (omega arith) (omega arith) h
+
+  pub turn_skip : (t : Turn) (chosen : ℕ → Bool) (s q : Sender) (n : ℕ) → s.low.0 ≤ n → q ≡ turn_up_to w t chosen s (n - s.low.0) → turning chosen q n ≡ false
+      → q ≡ turn_up_to w t chosen s (n + 1 - s.low.0)
+  turn_skip t chosen s q n l h z = turn_past t chosen s q (n - s.low.0) (n + 1 - s.low.0) n (omega arith) (omega arith) h z
 
   -- The places of numbers that have not had their turn are as they were.
   later_kept : (t : Turn) (chosen : ℕ → Bool) (s : Sender) (i n : ℕ) → s.low.0 + i ≤ n → n < s.low.0 + w → number_at w (turn_up_to w t chosen s i) n ≡ number_at w s n
@@ -74,8 +80,7 @@ module _ (w : ℕ) where
       ap (λ (x : Sender). is_pending (number_at w x (s.low.0 + (i + k)))) r
       ∙ ap is_pending (later_kept t chosen s (i + k) (s.low.0 + (i + k)) (omega arith) (omega arith))
       ∙ h.idle (s.low.0 + (i + k)) (omega arith) (omega arith) in
-      turn_skip t chosen s q (i + k) r (ap (λ (b : Bool). cond b (chosen (s.low.0 + (i + k))) false) idle)
-      ∙ ap (turn_up_to w t chosen s) (let z : i + k + 1 ≡ i + suc k = omega arith in z)
+      turn_past t chosen s q (i + k) (i + suc k) _ refl (omega arith) r (ap (λ (b : Bool). cond b (chosen (s.low.0 + (i + k))) false) idle)
 
   pub turn_all : (t : Turn) (chosen : ℕ → Bool) (s q : Sender) (i : ℕ) → Turnable w s → q ≡ turn_up_to w t chosen s i → s.low.0 + i ≡ s.next.0
       → q ≡ turn_up_to w t chosen s w
@@ -166,10 +171,9 @@ module _ (w : ℕ) where
 
   -- Where nothing is chosen and both lows stand, nothing changes.
   up_to_same : (t : Turn) (f : ℕ → Bool) (s : Sender) (i : ℕ) → ((n : ℕ) → f n ≡ false) → s ≡ turn_up_to w t f s i
-  up_to_same t f s zero h = turn_none t f s
+  up_to_same t f s zero h = turn_none t f s 0 refl
   up_to_same t f s (suc i) h =
-      turn_skip t f s s i (up_to_same t f s i h) (ap (λ (b : Bool). cond (is_pending (number_at w s (s.low.0 + i))) b false) (h (s.low.0 + i)) ∙ sym (cond_none (is_pending (number_at w s (s.low.0 + i)))))
-      ∙ ap (turn_up_to w t f s) (add-one i)
+      turn_past t f s s i (suc i) _ refl refl (up_to_same t f s i h) (ap (λ (b : Bool). cond (is_pending (number_at w s (s.low.0 + i))) b false) (h (s.low.0 + i)) ∙ sym (cond_none (is_pending (number_at w s (s.low.0 + i)))))
 
   pub turned_nothing : (t : Turn) (f : ℕ → Bool) (s : Sender) → ((n : ℕ) → f n ≡ false) → number_passes (number_at w s s.low.0) ≡ false
       → is_acknowledged (block_at w s s.channellow.0) ≡ false → s ≡ turned_of w t f s

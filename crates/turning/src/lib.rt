@@ -13,13 +13,7 @@ use sender::{BlockPlace, NumberPlace, Sender};
 fn turns(state: u8, flag: bool, n: u64, upto: u64) -> bool
     ensures { result ≡ cond (eqb state 1) (cond flag true (ltb n upto)) false }
 {
-    if state != sender::PENDING {
-        return false;
-    }
-    if flag {
-        return true;
-    }
-    n < upto
+    state == sender::PENDING && (flag || n < upto)
 }
 
 // Pending numbers that are flagged at their place, or lie below upto, get the one state and their blocks the other. Then low moves
@@ -28,17 +22,13 @@ pub fn turn(s: Sender, flags: [bool; 32], upto: u64, number: u8, block: u8) -> S
     requires { Turnable 32 s }
     ensures { result ≡ turned_of 32 (record { number = number; block = block }) (chosen_by 32 flags upto) s }
 {
-    let low = s.low.0;
-    let count = s.next.0 - low;
     let mut q = s;
-    let mut i: u64 = 0;
-    while i < count {
-        let n = low + i;
-        let at = window::data_place(DataNumber(n));
+    for n in s.low.0..s.next.0 {
+        let at = window::place(DataNumber(n));
         let p = q.numbers[at];
         if turns(p.state, flags[at], n, upto) {
             let channel = p.channel;
-            let blockat = window::channel_place(channel);
+            let blockat = window::place(channel);
             let b = q.blocks[blockat];
             q.numbers[at] = NumberPlace {
                 channel,
@@ -51,11 +41,9 @@ pub fn turn(s: Sender, flags: [bool; 32], upto: u64, number: u8, block: u8) -> S
                 length: b.length,
             };
         }
-        i += 1;
     }
-    let mut k: u64 = 0;
-    while k < DataNumber::WINDOW {
-        let at = window::data_place(q.low);
+    for _ in 0..DataNumber::WINDOW {
+        let at = window::place(q.low);
         let p = q.numbers[at];
         if !sender::passes(p.state) {
             break;
@@ -67,11 +55,9 @@ pub fn turn(s: Sender, flags: [bool; 32], upto: u64, number: u8, block: u8) -> S
         };
         let after = DataNumber(q.low.0 + 1);
         q.low = after;
-        k += 1;
     }
-    let mut m: u64 = 0;
-    while m < ChannelNumber::WINDOW {
-        let at = window::channel_place(q.channellow);
+    for _ in 0..ChannelNumber::WINDOW {
+        let at = window::place(q.channellow);
         let b = q.blocks[at];
         if b.state != sender::ACKNOWLEDGED {
             return q;
@@ -83,7 +69,6 @@ pub fn turn(s: Sender, flags: [bool; 32], upto: u64, number: u8, block: u8) -> S
         };
         let after = ChannelNumber(q.channellow.0 + 1);
         q.channellow = after;
-        m += 1;
     }
     q
 }

@@ -1,5 +1,6 @@
 -- What the definitions of Says and Rule give at each way out of the functions that meet them, and bounds for their callers.
-use Rattle.std.specs.Prelude.{ℕ, zero, suc, ◌+◌, ◌*◌, ◌/◌, ◌%◌, ◌^◌, ◌≤◌, ◌<◌, Bool, true, false, cond, not, List, [], ◌∷◌, ◌≡◌, refl, length, get_or, take, drop, replicate, eqb, ltb}
+use Rattle.common.specs.declared.Refusal.TheVariants.{Room}
+use Rattle.std.specs.Prelude.{ℕ, zero, suc, ◌+◌, ◌*◌, ◌/◌, ◌%◌, ◌^◌, ◌≤◌, ◌<◌, Bool, true, false, cond, not, List, [], ◌∷◌, ◌≡◌, refl, length, get_or, take, drop, replicate, eqb, ltb, Err, Ok}
 use Rattle.std.specs.Bool.{beq}
 use Rattle.std.proofs.Common.{sym, ◌∙◌, ap, add-one, arith, length-drop, drop-cons, shr-shr, shr_lt, pow_pos, lt-ltb, le-ltb, ltb-true, eq-eqb, ne_eqb}
 use Rattle.std.proofs.Math.Nat.{pow-succ'}
@@ -10,8 +11,7 @@ use Rattle.std.proofs.Math.Arith.{lt-one}
 use Rattle.std.specs.Int.Count.{ones, ones_step}
 use Rattle.common.specs.Order.{test, first, first_here, first_skip, first_none}
 use Rattle.common.specs.Put.{put_of}
-use Rattle.common.specs.Answer.{written_of, left_of, room_answer}
-use Rattle.common.specs.declared.Written.TheVariants.{Refused, Wrote}
+use Rattle.common.specs.Answer.{written_of, left_of, room_answer, written_refused}
 use Rattle.vector.specs.declared.Saying.{Saying}
 use Rattle.vector.specs.declared.Saying.TheVariants.{Map, Run}
 use Rattle.vector.specs.Says.{bit_of, says_of, bits_of, states_in, count_of, received_in}
@@ -238,14 +238,14 @@ vector_short ss = let h = vector_sevenths ss in omega arith
 -- THE ANSWER
 
 pub write_refused : (ss : List Bool) (out : List ℕ) → length out < length (vector_of ss)
-    → (Refused 14 ≡ written_of (answer_of ss (length out)) (vector_of ss)) × (out ≡ left_of (answer_of ss (length out)) (vector_of ss) out)
+    → (Err Room ≡ written_of (answer_of ss (length out)) (vector_of ss)) × (out ≡ left_of (answer_of ss (length out)) (vector_of ss) out)
 unfolding answer_of room_answer written_of left_of
 write_refused ss out h =
     let e : 14 ≡ first (test (ltb (length out) (length (vector_of ss))) 14 ∷ []) = first_here _ _ _ (lt-ltb _ _ h) in
-    (rw (← e) refl, rw (← e) refl)
+    (written_refused Room _ _ e, rw (← e) refl)
 
 pub write_done : (ss : List Bool) (out : List ℕ) → length (vector_of ss) ≤ length out
-    → (Wrote (length (vector_of ss)) ≡ written_of (answer_of ss (length out)) (vector_of ss)) × (put_of out 0 (vector_of ss) ≡ left_of (answer_of ss (length out)) (vector_of ss) out)
+    → (Ok (length (vector_of ss)) ≡ written_of (answer_of ss (length out)) (vector_of ss)) × (put_of out 0 (vector_of ss) ≡ left_of (answer_of ss (length out)) (vector_of ss) out)
 unfolding answer_of room_answer written_of left_of
 write_done ss out h =
     let e : 0 ≡ first (test (ltb (length out) (length (vector_of ss))) 14 ∷ []) = first_none ∙ first_skip _ _ _ (le-ltb _ _ h) in

@@ -49,18 +49,8 @@ pub fn state(b: u8, i: u8) -> bool
     ensures { result ≡ get_or (states_in (says_of b)) i false }
 {
     match says(b) {
-        Saying::Map(m) => {
-            if 7 <= i {
-                return false;
-            }
-            bit(m, i as u32)
-        }
-        Saying::Run(s, n) => {
-            if n <= i {
-                return false;
-            }
-            s
-        }
+        Saying::Map(m) => i < 7 && bit(m, i as u32),
+        Saying::Run(s, n) => i < n && s,
     }
 }
 
@@ -77,11 +67,6 @@ pub fn received(b: u8) -> u8
 {
     match says(b) {
         Saying::Map(m) => ones(m),
-        Saying::Run(s, n) => {
-            if s {
-                return n;
-            }
-            0
-        }
+        Saying::Run(s, n) => if s { n } else { 0 },
     }
 }

@@ -1,7 +1,7 @@
 // What each of the 256 vector bytes says, and the vectors of a script's states. Shows for each byte how many numbers it gives a state, how many of
 // them it names as received, and the states themselves as a sum, 16 bytes to a line; then one line for each line of the script: its name, what
-// writing answers, the vector's bytes, and how many other bytes of the lent buffer were touched. A line gives runs of states in turn: `lost=`, `got=`,
-// `lost2=` and `got2=` say how many.
+// writing answers, the vector's bytes, and how many other bytes of the lent buffer were touched. A line gives runs of states in turn: `lost=`,
+// `got=`, `lost2=` and `got2=` say how many.
 #![tactic(auto)]
 
 ghost use Rattle.std.specs.Prelude.{◌<◌, ◌≤◌, length};
@@ -15,18 +15,9 @@ const MOST: usize = 256;
 fn states(b: u8) -> u64 {
     let mut n: u64 = 0;
     for i in (0..63u8).rev() {
-        n = twice(n, vector::state(b, i));
+        n = n << 1 | vector::state(b, i) as u64;
     }
     n
-}
-
-// Twice a number, and one more where the state is true.
-fn twice(n: u64, s: bool) -> u64 {
-    let double = std::num::wrapping_add_u64(n, n);
-    if s {
-        return std::num::wrapping_add_u64(double, 1);
-    }
-    double
 }
 
 // What one byte says.
@@ -52,14 +43,9 @@ fn run(states: &mut [bool], at: usize, n: u64, s: bool) -> usize
     requires { at ≤ length states.old }
     ensures { result ≤ length states.old }
 {
-    let mut to = at;
-    for _ in 0..n {
-        if states.len() <= to {
-            return to;
-        }
-        states[to] = s;
-        to += 1;
-    }
+    let room = states.len() - at;
+    let to = at + n.min(room as u64) as usize;
+    states[at..to].fill(s);
     to
 }
 
@@ -86,22 +72,16 @@ fn line(rt: &impl Print, line: &[u8]) -> io::Result<()> {
     let mut states = [false; MOST];
     let mut out = [0u8; 64];
     let n = given(line, &mut states);
-    let room = script::lent(line, b"room=", 0, 64);
     script::name(rt, line)?;
-    written(rt, &states[..n], &mut out[..room])
-}
-
-// Every line of the script.
-fn lines(rt: &impl Print, text: &[u8]) -> io::Result<()> {
-    for each in script::lines(text) {
-        line(rt, each)?;
-    }
-    Ok(())
+    written(rt, &states[..n], script::lent(line, b"room=", 0, &mut out))
 }
 
 fn main(rt: HostRuntime) -> io::Result<()> {
     all(&rt)?;
     let mut text = [0u8; 4096];
-    let n = script::read(&mut rt.stdin(), &mut text)?;
-    lines(&rt, &text[..n])
+    let n = input::read(&mut rt.stdin(), &mut text)?;
+    for each in script::lines(&text[..n]) {
+        line(&rt, each)?;
+    }
+    Ok(())
 }

@@ -7,7 +7,7 @@ ghost use Rattle.window.specs.Places.{past_of};
 ghost use Rattle.window.specs.Store.{sound_with};
 ghost use Rattle.window.specs.EachPlace.{count_of};
 
-use numbers::{ChannelNumber, DataNumber};
+use numbers::{DataNumber, Number};
 
 // How many places a window has, and how many numbers, each at its place.
 pub const PLACES: usize = DataNumber::WINDOW as usize;
@@ -19,18 +19,11 @@ pub const PLACE: usize = 1225;
 
 pub const STORE: usize = PLACES * PLACE;
 
-// The place of a data number.
-pub fn data_place(n: DataNumber) -> usize
-    ensures { (result ≡ n.0 % 32) × (result < 32) }
+// The place of a number, of either kind.
+pub fn place<N: Number>(n: N) -> usize
+    ensures { (result ≡ N.full n % 32) × (result < 32) }
 {
-    (n.0 % DataNumber::WINDOW) as usize
-}
-
-// The place of a channel number.
-pub fn channel_place(c: ChannelNumber) -> usize
-    ensures { (result ≡ c.0 % 32) × (result < 32) }
-{
-    (c.0 % ChannelNumber::WINDOW) as usize
+    (n.full() % DataNumber::WINDOW) as usize
 }
 
 // How far past `first` the number lies, within a window, that has this place.

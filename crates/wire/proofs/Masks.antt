@@ -1,28 +1,13 @@
 -- Masks and shifts, in the arithmetic that the contracts speak.
-use Prim.Native.Nat.{ℕ, ◌+◌, ◌-◌, ◌*◌, ◌/◌, ◌%◌, ◌^◌, ◌≤◌, ◌<◌}
-use mathlib.Core.Bool.{Bool, true, false, cond, not}
-use mathlib.Core.Path.{◌≡◌, refl, ◌∙◌, ap}
+use Prim.Native.Nat.{ℕ, ◌+◌, ◌-◌, ◌*◌, ◌/◌, ◌%◌}
+use mathlib.Core.Bool.{not}
+use mathlib.Core.Path.{◌≡◌, refl}
 use native.Mathlib.Omega.{arith}
-use native.Mathlib.Nat.{add_comm, mul_comm}
 use lib.Dec.{eqb}
-use lib.Bits.{bit_and, bit_or, and_mask, and_high, or_shifted}
-use mir.Val.{bool_byte}
+use lib.Bits.{bit_and, and_mask, and_high}
 use borrow.Author.Tests.{eq-eqb, ne_eqb}
 use Rattle.wire.specs.Frame.{short_in, dropped_by}
 use Rattle.wire.specs.Flags.{six_of, outside}
-
--- two fields of one number, the higher shifted over the lower
-pub or_join : (k a b m : ℕ) → b < 2 ^ k → a * 2 ^ k % m ≡ a * 2 ^ k → bit_or (a * 2 ^ k % m) b ≡ b + 2 ^ k * a
-or_join k a b m h e =
-    ap (λ (x : ℕ). bit_or x b) e ∙ or_shifted a k b h ∙ add_comm (a * 2 ^ k) b ∙ ap (λ (x : ℕ). b + x) (mul_comm a (2 ^ k))
-
-pub bool_byte_lem : (t : Bool) → bool_byte t ≡ cond t 1 0
-bool_byte_lem true = refl
-bool_byte_lem false = refl
-
-pub bool_small : (t : Bool) → bool_byte t ≤ 1
-bool_small true = omega arith
-bool_small false = omega arith
 
 -- the six flags, each by its mask
 pub record Masked (x : ℕ) : Type 0 where

@@ -1,9 +1,8 @@
 -- What it means that a datagram says the same as some values and bytes.
-use Rattle.std.specs.Prelude.{ℕ, ◌<◌, cond, List, ◌≡◌, get_or}
+use Rattle.std.specs.Prelude.{ℕ, ◌<◌, cond, List, ◌≡◌, get_or, Ok, Some}
 use Rattle.wire.specs.declared.Vector.{Vector}
 use Rattle.wire.specs.declared.Values.{Values}
 use Rattle.wire.specs.declared.Packet.{Packet}
-use Rattle.wire.specs.declared.Reading.TheVariants.{Read}
 use Rattle.wire.specs.Flags.{ack_in, data_in, vector_in, aoa_in, overhead_in, delay_in}
 use Rattle.wire.specs.Layout.{sized, no_ack, no_delay, no_vector, part_of}
 use Rattle.wire.specs.Read.{read_of}
@@ -42,7 +41,7 @@ kept_of v =
 -- the datagram d reads as these values, with these additions, vector bytes and body
 pub record Says (v : Values) (additions vector body d : List ℕ) : Type 0 where
   pub packet : Packet
-  pub reads : read_of d ≡ Read packet
+  pub reads : read_of d ≡ Ok (Some packet)
   pub values : packet.values ≡ kept_of v
   pub additions_same : additions_in d packet ≡ given (ack_in v.flags) additions
   pub vector_same : coded_in d packet ≡ given (vector_in v.flags) vector

@@ -1,6 +1,5 @@
 -- Demand 2: what is written reads back to the same values.
-use Rattle.std.specs.Prelude.{ℕ, List, ◌≡◌, take}
-use Rattle.common.specs.declared.Written.TheVariants.{Wrote}
+use Rattle.std.specs.Prelude.{ℕ, List, ◌≡◌, take, Ok}
 use Rattle.common.specs.Answer.{written_of, left_of}
 use Rattle.wire.specs.declared.Values.{Values}
 use Rattle.wire.specs.Write.{datagram_of, write_answer}
@@ -15,7 +14,7 @@ written_reads_back v additions vector body room e =
 
 -- Of the two calls: the bytes that an accepted write reports, read, say what was written.
 pub write_then_read : (v : Values) (additions vector body out : List ℕ) (room k : ℕ)
-    → written_of (write_answer v additions vector body room) (datagram_of v additions vector body) ≡ Wrote k
+    → written_of (write_answer v additions vector body room) (datagram_of v additions vector body) ≡ Ok k
     → Says v additions vector body (take k (left_of (write_answer v additions vector body room) (datagram_of v additions vector body) out))
 write_then_read v additions vector body out room k e =
     let (accepted, same) = wrote _ _ out k e in

@@ -23,10 +23,7 @@ pub fn dropped(prefix: u8) -> usize
     ensures { (result ≡ dropped_by prefix) × (result ≤ 6) }
 {
     let short = prefix >> 5;
-    if short == 0 {
-        return 0;
-    }
-    7 - short as usize
+    if short == 0 { 0 } else { 7 - short as usize }
 }
 
 // The flags of a header.
@@ -123,10 +120,7 @@ pub fn size_byte(size: u8, timed: bool) -> u8
 pub fn size_if(flag: bool, size: usize) -> usize
     ensures { (result ≡ sized flag size) × (result ≤ size) }
 {
-    if flag {
-        return size;
-    }
-    0
+    if flag { size } else { 0 }
 }
 
 // Are ACK and ACKVEC both flagged?

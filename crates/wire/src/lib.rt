@@ -28,7 +28,7 @@ pub const DELAYACKINFO: u32 = 8;
 
 // The ACK payload, without its additions.
 #[repr(C)]
-#[derive(Clone, Copy)]
+#[derive(Clone, Copy, Default)]
 pub struct Ack {
     // SeqNum: every data number up to this one is acknowledged.
     pub number: u16,
@@ -44,7 +44,7 @@ pub struct Ack {
 
 // The DelayAckInfo payload.
 #[repr(C)]
-#[derive(Clone, Copy)]
+#[derive(Clone, Copy, Default)]
 pub struct Delay {
     // MaxDelayedAcks.
     pub most: u8,
@@ -54,13 +54,13 @@ pub struct Delay {
 
 // The ACKVEC payload, without its vector bytes.
 #[repr(C)]
-#[derive(Clone, Copy)]
+#[derive(Clone, Copy, Default)]
 pub struct Vector {
     // BaseSeqNum: the first number that the vector speaks of.
     pub base: u16,
     // How many vector bytes follow, 7 bits.
     pub size: u8,
-    // Do a time stamp and a gap stand before the vector bytes?
+    // Do a time stamp and a gap stand before the vector bytes? No Option holds the two: the record crosses to C, and a writer is lent any values.
     pub timed: bool,
     // TimeStamp, 24 bits; 0 where there is none.
     pub time: u32,
@@ -71,7 +71,7 @@ pub struct Vector {
 // The values of a packet, but for the bytes that have a length of their own. What is not flagged is 0 where it was read, and is not
 // looked at where it is written.
 #[repr(C)]
-#[derive(Clone, Copy)]
+#[derive(Clone, Copy, Default)]
 pub struct Values {
     // The header's flags, 12 bits.
     pub flags: u16,
@@ -96,7 +96,7 @@ pub struct Values {
 // A packet that was read, with the places at which its additions, its vector bytes and its body stand. Places count in the datagram
 // with its first and eighth bytes exchanged: what stands at place 7 is the datagram's first byte. A place is 0 where nothing stands.
 #[repr(C)]
-#[derive(Clone, Copy)]
+#[derive(Clone, Copy, Default)]
 pub struct Packet {
     // The packet's values.
     pub values: Values,
@@ -108,15 +108,4 @@ pub struct Packet {
     pub body: usize,
     // How many bytes the block has.
     pub bytes: usize,
-}
-
-// What reading a datagram answers.
-#[derive(Clone, Copy)]
-pub enum Reading {
-    // The refusal's number.
-    Refused(u8),
-    // A packet of type 8: accepted, and nothing further is read.
-    Dummy,
-    // A packet of type 0.
-    Read(Packet),
 }

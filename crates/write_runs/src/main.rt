@@ -28,7 +28,6 @@ fn run(rt: &impl Print, line: &[u8]) -> io::Result<()> {
     let a = script::bytes(line, b"additions=", &mut additions);
     let c = script::bytes(line, b"coded=", &mut coded);
     let b = script::bytes(line, b"block=", &mut block);
-    let n = script::lent(line, b"room=", 0, 1233);
     script::name(rt, line)?;
     show(
         rt,
@@ -36,20 +35,15 @@ fn run(rt: &impl Print, line: &[u8]) -> io::Result<()> {
         &additions[..a],
         &coded[..c],
         &block[..b],
-        &mut out[..n],
+        script::lent(line, b"room=", 0, &mut out),
     )
-}
-
-// Every line of the script.
-fn runs(rt: &impl Print, text: &[u8]) -> io::Result<()> {
-    for line in script::lines(text) {
-        run(rt, line)?;
-    }
-    Ok(())
 }
 
 fn main(rt: HostRuntime) -> io::Result<()> {
     let mut text = [0u8; 16384];
-    let n = script::read(&mut rt.stdin(), &mut text)?;
-    runs(&rt, &text[..n])
+    let n = input::read(&mut rt.stdin(), &mut text)?;
+    for line in script::lines(&text[..n]) {
+        run(&rt, line)?;
+    }
+    Ok(())
 }

@@ -22,9 +22,6 @@ take_zeros zero m h = refl
 take_zeros (suc n) zero h = absurd (omega arith)
 take_zeros (suc n) (suc m) h = ap (λ (l : List ℕ). 0 ∷ l) (take_zeros n m (omega arith))
 
-pub zeros_length : (n m : ℕ) → n ≤ m → n ≡ length (take n (replicate {A = ℕ} m 0))
-zeros_length n m h = sym (ap length (take_zeros n m h) ∙ length-replicate n 0)
-
 -- the exchange stays within the first eight bytes
 swapped_append : (q t : List ℕ) → 8 ≤ length q → swapped (q ++ t) ≡ swapped q ++ t
 unfolding swapped

@@ -9,7 +9,10 @@ use lib.Dec.{eqb, leb, ltb}
 use borrow.Author.Tests.{not-false, eqb-false, ltb-false, lt-ltb, le-ltb, ne_eqb, eqb-true}
 use Rattle.common.specs.Order.{Test, first, first_here, first_skip, first_none, first_pass, first_over}
 use Rattle.wire.specs.declared.Values.{Values}
-use Rattle.writer.specs.declared.Judged.TheVariants.{Refused, Fits}
+use Rattle.std.specs.Prelude.{Ok, Err}
+use Rattle.common.specs.declared.Refusal.{Refusal}
+use Rattle.common.specs.declared.Refusal.TheVariants.{TooWide, Room}
+use Rattle.common.specs.Answer.{answered_of, written_of, left_of, settled_err, settled_ok, settled_refused, settled_accepted}
 use Rattle.wire.specs.Flags.{ack_in, vector_in, outside, both, six_of}
 use Rattle.wire.specs.Write.{ack_wide, vector_wide, value_tests, size_tests, packet_bytes, datagram_of, write_answer}
 use Rattle.writer.specs.Steps.{judged_of}
@@ -59,50 +62,43 @@ module _ (v : Values) (a x b : List ℕ) (room : ℕ) where
   answer_past f =
       first_skip _ _ _ f.vector ∙ first_skip _ _ _ f.ack ∙ first_skip _ _ _ f.window ∙ first_skip _ _ _ f.acks ∙ first_skip _ _ _ f.others
 
-  judged_refused : (n : ℕ) → n ≡ write_answer v a x b room → (n ≡ 0 → ⊥) → Refused n ≡ judged_of v a x b room
+  pub judged_values : (r : Refusal) → Err r ≡ answered_of (first (value_tests v (length a) (length x))) → Err r ≡ judged_of v a x b room
+  unfolding judged_of answered_of write_answer
+  judged_values r e =
+      let (h, q) = settled_err r _ tt e in
+      let w = first_over (value_tests v (length a) (length x)) (size_tests (length (datagram_of v a x b)) room) _ refl h in
+      rw (← w, ne_eqb (first (value_tests v (length a) (length x))) 0 h, q) refl
+
+  pub judged_long : 0 ≡ first (value_tests v (length a) (length x)) → 1232 < length (datagram_of v a x b) → Err TooWide ≡ judged_of v a x b room
   unfolding judged_of
-  judged_refused n e h = rw (← e, ne_eqb n 0 h) refl
-
-  pub judged_values : (n : ℕ) → n ≡ first (value_tests v (length a) (length x)) → (n ≡ 0 → ⊥) → Refused n ≡ judged_of v a x b room
-  unfolding write_answer
-  judged_values n e h = judged_refused n (first_over (value_tests v (length a) (length x)) (size_tests (length (datagram_of v a x b)) room) n e h) h
-
-  pub judged_long : 0 ≡ first (value_tests v (length a) (length x)) → 1232 < length (datagram_of v a x b) → Refused 10 ≡ judged_of v a x b room
   judged_long e h =
-      judged_refused 10 (first_here _ _ _ (lt-ltb 1232 (length (datagram_of v a x b)) h) ∙ answer_past (values_fit v (length a) (length x) e)) (λ q. absurd (omega arith))
+      settled_refused TooWide _ _ (first_here _ _ _ (lt-ltb 1232 (length (datagram_of v a x b)) h) ∙ answer_past (values_fit v (length a) (length x) e))
 
   pub judged_room : 0 ≡ first (value_tests v (length a) (length x)) → length (datagram_of v a x b) ≤ 1232 → room < length (datagram_of v a x b)
-      → Refused 14 ≡ judged_of v a x b room
+      → Err Room ≡ judged_of v a x b room
+  unfolding judged_of
   judged_room e l h =
-      judged_refused 14
+      settled_refused Room _ _
       (first_here _ _ _ (lt-ltb room (length (datagram_of v a x b)) h) ∙ first_skip _ _ _ (le-ltb 1232 (length (datagram_of v a x b)) l)
       ∙ answer_past (values_fit v (length a) (length x) e))
-      (λ q. absurd (omega arith))
 
   pub judged_fits : (k : ℕ) → k ≡ length (packet_bytes v a x b) → 0 ≡ first (value_tests v (length a) (length x))
-      → length (datagram_of v a x b) ≤ 1232 → length (datagram_of v a x b) ≤ room → Fits k ≡ judged_of v a x b room
+      → length (datagram_of v a x b) ≤ 1232 → length (datagram_of v a x b) ≤ room → Ok k ≡ judged_of v a x b room
   unfolding judged_of
   judged_fits k w e l h =
       let z : 0 ≡ write_answer v a x b room =
       first_none ∙ first_skip _ 14 _ (le-ltb room (length (datagram_of v a x b)) h) ∙ first_skip _ 10 _ (le-ltb 1232 (length (datagram_of v a x b)) l)
       ∙ answer_past (values_fit v (length a) (length x) e) in
-      rw (← z) (ap Fits w)
+      rw (w) (settled_accepted _ _ z)
 
   -- and what each answer tells
-  pub refused_tells : (n : ℕ) → Refused n ≡ judged_of v a x b room → (n ≡ write_answer v a x b room) × (n ≡ 0 → ⊥)
-  unfolding judged_of
-  refused_tells n e = go (eqb (write_answer v a x b room) 0) refl e
-    where
-      go : (t : Bool) → eqb (write_answer v a x b room) 0 ≡ t
-          → Refused n ≡ cond t (Fits (length (packet_bytes v a x b))) (Refused (write_answer v a x b room)) → (n ≡ write_answer v a x b room) × (n ≡ 0 → ⊥)
-      go true t q = absurd (let z : ◌≡◌ {A = ℕ} 0 1 = cc in omega arith)
-      go false t q = let w : n ≡ write_answer v a x b room = cc in (w, λ z. eqb-false (write_answer v a x b room) 0 t (sym w ∙ z))
+  pub refused_tells : (r : Refusal) (out : List ℕ) → Err r ≡ judged_of v a x b room
+      → (Err r ≡ written_of (write_answer v a x b room) (datagram_of v a x b)) × (out ≡ left_of (write_answer v a x b room) (datagram_of v a x b) out)
+  unfolding judged_of written_of left_of
+  refused_tells r out e =
+      let (h, q) = settled_err r (write_answer v a x b room) _ e in
+      (rw (ne_eqb _ 0 h, q) refl, rw (ne_eqb _ 0 h) refl)
 
-  pub fits_tells : (k : ℕ) → Fits k ≡ judged_of v a x b room → (0 ≡ write_answer v a x b room) × (k ≡ length (packet_bytes v a x b))
+  pub fits_tells : (k : ℕ) → Ok k ≡ judged_of v a x b room → (0 ≡ write_answer v a x b room) × (k ≡ length (packet_bytes v a x b))
   unfolding judged_of
-  fits_tells k e = go (eqb (write_answer v a x b room) 0) refl e
-    where
-      go : (t : Bool) → eqb (write_answer v a x b room) 0 ≡ t
-          → Fits k ≡ cond t (Fits (length (packet_bytes v a x b))) (Refused (write_answer v a x b room)) → (0 ≡ write_answer v a x b room) × (k ≡ length (packet_bytes v a x b))
-      go true t q = (sym (eqb-true (write_answer v a x b room) 0 t), let w : k ≡ length (packet_bytes v a x b) = cc in w)
-      go false t q = absurd (let z : ◌≡◌ {A = ℕ} 0 1 = cc in omega arith)
+  fits_tells k e = settled_ok k (write_answer v a x b room) _ e

@@ -10,15 +10,8 @@ ghost use Rattle.wire.specs.Write.{ack_wide, vector_wide, packet_bytes, datagram
 ghost use Rattle.laying.specs.Halves.{front_bytes, back_bytes};
 ghost use Rattle.writer.specs.Steps.{judged_of};
 
-use common::Written;
+use common::Refusal;
 use wire::{Values, bits};
-
-// What judging a write answers: the refusal's number, or how many bytes the packet has.
-#[derive(Clone, Copy)]
-pub enum Judged {
-    Refused(u8),
-    Fits(usize),
-}
 
 // Lays the header and the payloads up to AckOfAcks.
 fn put_front(out: &mut [u8], at: usize, v: Values, additions: &[u8]) -> usize
@@ -55,36 +48,36 @@ fn put_back(out: &mut [u8], at: usize, v: Values, vector: &[u8], body: &[u8]) ->
 }
 
 // Judges a write into room for so many bytes: refused with 4, 5, 10 or 14, or the packet's size.
-fn judge(v: Values, additions: &[u8], vector: &[u8], body: &[u8], room: usize) -> Judged
+fn judge(
+    v: Values,
+    additions: &[u8],
+    vector: &[u8],
+    body: &[u8],
+    room: usize,
+) -> Result<usize, Refusal>
     ensures { result ≡ judged_of v additions.now vector.now body.now room }
 {
-    let refusal = fitting::judge_values(v, additions.len(), vector.len());
-    if refusal != 0 {
-        return Judged::Refused(refusal);
-    }
+    fitting::judge_values(v, additions.len(), vector.len())?;
     let block = bits::size_if(bits::flag(v.flags, wire::DATA), body.len());
     if wire::LONGEST_DATAGRAM < block {
-        return Judged::Refused(10);
+        return Err(Refusal::TooWide);
     }
     let k = fitting::packet_size(v, additions, vector, body);
     let n = fitting::datagram_size(k);
     if wire::LONGEST_DATAGRAM < n {
-        return Judged::Refused(10);
+        return Err(Refusal::TooWide);
     }
     if room < n {
-        return Judged::Refused(14);
+        return Err(Refusal::Room);
     }
-    Judged::Fits(k)
+    Ok(k)
 }
 
 // The prefix of a packet of k bytes: its length is told where it is short.
 fn prefix_for(k: usize) -> u8
     ensures { result ≡ cond (ltb k 7) (32 * k) 0 }
 {
-    if k < 7 {
-        return bits::prefix_of(k as u8);
-    }
-    0
+    if k < 7 { bits::prefix_of(k as u8) } else { 0 }
 }
 
 // Pads a packet of k bytes with zeros to 7.
@@ -94,20 +87,19 @@ fn put_zeros(out: &mut [u8], at: usize, k: usize) -> usize
 {
     if k < 7 {
         let zeros = [0u8; 7];
-        return common::lay(out, at, &zeros[..7 - k]);
+        common::lay(out, at, &zeros[..7 - k])
+    } else {
+        at
     }
-    at
 }
 
 // Exchanges the first and the eighth byte.
+#[tactic(auto, unfolding(wire::specs::Frame::swapped))]
 fn exchange(out: &mut [u8])
     requires { 8 ≤ length out.old }
     ensures { out.new ≡ swapped out.old }
 {
-    let first = out[0];
-    let eighth = out[7];
-    out[0] = eighth;
-    out[7] = first;
+    out.swap(0, 7);
 }
 
 // Writes the datagram of accepted values whose packet has k bytes.
@@ -133,12 +125,16 @@ fn put_datagram(
 
 // Writes one datagram of the values, with the additions of its ACK, the bytes of its vector and its body, into out. What is not flagged is not
 // looked at. Refused with 4, 5, 10, 14, in this order.
-pub fn write(v: Values, additions: &[u8], vector: &[u8], body: &[u8], out: &mut [u8]) -> Written
+pub fn write(
+    v: Values,
+    additions: &[u8],
+    vector: &[u8],
+    body: &[u8],
+    out: &mut [u8],
+) -> Result<usize, Refusal>
     ensures answer { result ≡ written_of (write_answer v additions.now vector.now body.now (length out.old)) (datagram_of v additions.now vector.now body.now) }
     ensures bytes { out.new ≡ left_of (write_answer v additions.now vector.now body.now (length out.old)) (datagram_of v additions.now vector.now body.now) out.old }
 {
-    match judge(v, additions, vector, body, out.len()) {
-        Judged::Refused(n) => Written::Refused(n),
-        Judged::Fits(k) => Written::Wrote(put_datagram(out, v, additions, vector, body, k)),
-    }
+    let k = judge(v, additions, vector, body, out.len())?;
+    Ok(put_datagram(out, v, additions, vector, body, k))
 }

@@ -8,24 +8,23 @@ use Rattle.acknowledging.proofs.acknowledge.Goals as goal
 pub returns-then-not-consistent : goal.returns-then-not-consistent
 returns-then-not-consistent c = let both = ack_unfit 32 _ _ (sym c.consistent.ensures ∙ c.if-not-consistent.true) in record { answer = both.0; «record» = both.1 }
 
-pub judge-j-requires : goal.judge-j-requires
-judge-j-requires c = (sym c.consistent.ensures ∙ c.if-not-consistent.false, sym c.read.ensures ∙ c.in-Read.is)
+pub returns-in-Err : goal.returns-in-Err
+returns-in-Err c = let both = ack_refused 32 _ _ _ (sym c.consistent.ensures ∙ c.if-not-consistent.false) c.in-Err.ensures in record { answer = both.0; «record» = both.1 }
 
-pub returns-then-j-ne0 : goal.returns-then-j-ne0
-returns-then-j-ne0 c =
-    let both = ack_kept 32 _ _ _ _ (sym c.consistent.ensures ∙ c.if-not-consistent.false) (sym c.in-Read.is ∙ c.read.ensures)
-    c.judge-j.ensures.answer c.if-j-ne0.true in record { answer = both.0; «record» = both.1 }
+pub returns-in-Ok-None : goal.returns-in-Ok-None
+returns-in-Ok-None c = let both = ack_dummy 32 _ _ (sym c.consistent.ensures ∙ c.if-not-consistent.false) (rw c.in-Ok-None.field-0-is at c.in-Ok-None.ensures) in record { answer = both.0; «record» = both.1 }
+
+pub judge-requires : goal.judge-requires
+judge-requires c = (sym c.consistent.ensures ∙ c.if-not-consistent.false, sym (rw c.in-Ok-Some.field-0-is at c.in-Ok-Some.ensures))
+
+pub returns-in-Err-judge : goal.returns-in-Err-judge
+returns-in-Err-judge c =
+    let both = ack_kept 32 _ _ _ _ (sym c.consistent.ensures ∙ c.if-not-consistent.false) (rw c.in-Ok-Some.field-0-is at c.in-Ok-Some.ensures) c.in-Err-judge.ensures.answer in record { answer = both.0; «record» = both.1 }
 
 pub turn-q-requires : goal.turn-q-requires
 turn-q-requires c = turnable 32 32 _ (omega arith) (omega arith) (sym c.consistent.ensures ∙ c.if-not-consistent.false)
 
-pub returns-in-Refused : goal.returns-in-Refused
-returns-in-Refused c = let both = ack_refused 32 _ _ _ (sym c.consistent.ensures ∙ c.if-not-consistent.false) (sym c.in-Refused.is ∙ c.read.ensures) in record { answer = both.0; «record» = both.1 }
-
-pub returns-in-Dummy : goal.returns-in-Dummy
-returns-in-Dummy c = let both = ack_dummy 32 _ _ (sym c.consistent.ensures ∙ c.if-not-consistent.false) (sym c.in-Dummy.is ∙ c.read.ensures) in record { answer = both.0; «record» = both.1 }
-
-pub returns-else-j-ne0 : goal.returns-else-j-ne0
-returns-else-j-ne0 c =
-    let both = ack_turned 32 _ _ _ _ _ (sym c.consistent.ensures ∙ c.if-not-consistent.false) (sym c.in-Read.is ∙ c.read.ensures)
-    c.judge-j.ensures.answer c.judge-j.ensures.applied c.if-j-ne0.false c.turn-q.ensures in record { answer = both.0; «record» = both.1 }
+pub returns-in-Ok : goal.returns-in-Ok
+returns-in-Ok c =
+    let both = ack_turned 32 _ _ _ _ _ (sym c.consistent.ensures ∙ c.if-not-consistent.false) (rw c.in-Ok-Some.field-0-is at c.in-Ok-Some.ensures)
+    c.in-Ok.ensures.answer c.in-Ok.ensures.applied c.turn-q.ensures in record { answer = both.0; «record» = both.1 }

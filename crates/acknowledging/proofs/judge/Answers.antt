@@ -1,4 +1,5 @@
 -- `acknowledging::judge` meets its contract: each way out is an instance of a law.
+use mathlib.Core.Path.{refl}
 use native.Mathlib.Omega.{arith}
 use Rattle.turning.specs.Turnable.{turnable}
 use Rattle.acknowledging.proofs.Told.{told_ack, told_vector, told_silent, vector_inside}
@@ -17,4 +18,4 @@ pub returns-then-flag-2 : goal.returns-then-flag-2
 returns-then-flag-2 c = let r = told_vector 32 c.args.s _ _ _ _ _ c.requires.0 c.flag.ensures c.if-flag.false c.flag-2.ensures c.if-flag-2.true c.judge_listed.ensures in record { answer = r.answer; applied = r.applied }
 
 pub returns : goal.returns
-returns c = let r = told_silent 32 c.args.s _ _ _ _ (omega arith) c.requires.0 c.flag.ensures c.if-flag.false c.flag-2.ensures c.if-flag-2.false in record { answer = r.answer; applied = r.applied }
+returns c = let r = told_silent 32 c.args.s _ _ _ _ _ (omega arith) c.requires.0 c.flag.ensures c.if-flag.false c.flag-2.ensures c.if-flag-2.false refl in record { answer = r.answer; applied = r.applied }

@@ -6,4 +6,8 @@ pub answer_line-end-requires : goal.answer_line-end-requires
 answer_line-end-requires c = c.requires
 
 pub returns : goal.returns
-returns c = record { left = c.call-x.ensures.left; text = answer_laid _ _ _ _ _ c.call-x.ensures c.answer_line-end.ensures }
+returns c =
+    record {
+      left = c.call-x.ensures.left;
+      text = answer_laid _ _ _ _ _ c.call-x.ensures c.number-n.ensures c.unwrap_or-lost.ensures c.answer_line-end.ensures;
+    }

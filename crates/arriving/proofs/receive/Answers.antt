@@ -1,40 +1,44 @@
--- `arriving::receive` meets its contract: each way out is an instance of a law of Consistency and Receiving.
-use mathlib.Core.Path.{sym, ◌∙◌}
+-- `arriving::receive` meets its contract: each way out is an instance of a law of Receiving.
+use Rattle.std.specs.Prelude.{Ok}
+use mathlib.Core.Path.{◌∙◌, ap}
 use Rattle.window.specs.Store.{sound_with_lem, sound_told}
-use Rattle.arriving.proofs.Receiving.{receive_unsound, receive_refused, receive_dummy, receive_read}
+use Rattle.arriving.proofs.Receiving.{receive_unsound, receive_refused, receive_dummy, receive_judged, receive_read}
 use Rattle.arriving.proofs.receive.Goals as goal
 
 pub returns-then-not-sound : goal.returns-then-not-sound
-returns-then-not-sound c = let both = receive_unsound _ _ _ _ _ _ (sound_with_lem 32 _ _ _ _ c.consistent.ensures c.sound.ensures) c.if-not-sound.true in record { answer = both.0; «record» = both.1.0; bytes = both.1.1 }
+returns-then-not-sound c =
+    let both = receive_unsound _ _ _ _ _ _ (sound_with_lem 32 _ _ _ _ c.consistent.ensures c.sound.ensures) c.if-not-sound.true in
+    record { answer = both.0; «record» = both.1.0; bytes = both.1.1 }
 
-pub judge-a-requires : goal.judge-a-requires
-judge-a-requires c =
-    (sound_told 32 _ _ _ _ c.consistent.ensures c.sound.ensures
-    c.if-not-sound.false).0
+pub judge-requires : goal.judge-requires
+judge-requires c = (sound_told 32 _ _ _ _ c.consistent.ensures c.sound.ensures c.if-not-sound.false).0
 
-pub apply-q-requires : goal.apply-q-requires
-apply-q-requires c =
-    let t = sound_told 32 _ _ _ _ c.consistent.ensures
-    c.sound.ensures c.if-not-sound.false
-    in record { r_value = t.0; store_len = t.1; d_value = sym c.read.ensures ∙ c.in-Read.is; a_value = c.judge-a.ensures }
+pub apply-q-requires-clause-r_value : goal.apply-q-requires-clause-r_value
+apply-q-requires-clause-r_value c = (sound_told 32 _ _ _ _ c.consistent.ensures c.sound.ensures c.if-not-sound.false).0
 
-pub returns-in-Refused : goal.returns-in-Refused
-returns-in-Refused c =
-    let both = receive_refused _ _ _ _ _ _
-    (sound_with_lem 32 _ _ _ _ c.consistent.ensures c.sound.ensures)
-    c.if-not-sound.false _ c.read.ensures _ c.in-Refused.is in record { answer = both.0; «record» = both.1.0; bytes = both.1.1 }
+pub apply-q-requires-clause-store_len : goal.apply-q-requires-clause-store_len
+apply-q-requires-clause-store_len c = (sound_told 32 _ _ _ _ c.consistent.ensures c.sound.ensures c.if-not-sound.false).1
 
-pub returns-in-Dummy : goal.returns-in-Dummy
-returns-in-Dummy c =
-    let both = receive_dummy _ _ _ _ _ _ (sound_with_lem 32 _ _ _ _ c.consistent.ensures c.sound.ensures)
-    c.if-not-sound.false _ c.read.ensures c.in-Dummy.is in record { answer = both.0; «record» = both.1.0; bytes = both.1.1 }
+pub returns-in-Err : goal.returns-in-Err
+returns-in-Err c =
+    let both = receive_refused _ _ _ _ _ _ (sound_with_lem 32 _ _ _ _ c.consistent.ensures c.sound.ensures) c.if-not-sound.false _ c.read.ensures
+    _ c.in-Err.is in
+    record { answer = both.0; «record» = both.1.0; bytes = both.1.1 }
 
-pub returns-in-Read : goal.returns-in-Read
-returns-in-Read c =
-    let both = receive_read _ _ _ _ _ _
-    (sound_with_lem 32 _ _ _ _ c.consistent.ensures
-    c.sound.ensures)
-    c.if-not-sound.false _
-    c.read.ensures _ _ _ _ _
-    c.in-Read.is c.judge-a.ensures c.number.ensures
-    c.apply-q.ensures.«record» c.apply-q.ensures.bytes in record { answer = both.0; «record» = both.1.0; bytes = both.1.1 }
+pub returns-in-Ok-None : goal.returns-in-Ok-None
+returns-in-Ok-None c =
+    let both = receive_dummy _ _ _ _ _ _ (sound_with_lem 32 _ _ _ _ c.consistent.ensures c.sound.ensures) c.if-not-sound.false _ c.read.ensures
+    (c.in-Ok-None.is ∙ ap Ok c.in-Ok-None.field-0-is) in
+    record { answer = both.0; «record» = both.1.0; bytes = both.1.1 }
+
+pub returns-in-Err-judge : goal.returns-in-Err-judge
+returns-in-Err-judge c =
+    let both = receive_judged _ _ _ _ _ _ (sound_with_lem 32 _ _ _ _ c.consistent.ensures c.sound.ensures) c.if-not-sound.false _ c.read.ensures
+    _ (c.in-Ok-Some.is ∙ ap Ok c.in-Ok-Some.field-0-is) _ (rw c.in-Err-judge.is at c.judge.ensures) in
+    record { answer = both.0; «record» = both.1.0; bytes = both.1.1 }
+
+pub returns-in-Ok : goal.returns-in-Ok
+returns-in-Ok c =
+    let both = receive_read _ _ _ _ _ _ (sound_with_lem 32 _ _ _ _ c.consistent.ensures c.sound.ensures) c.if-not-sound.false _ c.read.ensures
+    _ (c.in-Ok-Some.is ∙ ap Ok c.in-Ok-Some.field-0-is) _ _ _ (rw c.in-Ok.is at c.judge.ensures) c.apply-q.ensures.«record» c.apply-q.ensures.bytes in
+    record { answer = both.0; «record» = both.1.0; bytes = both.1.1 }

@@ -2,4 +2,4 @@
 use Rattle.boxed.proofs.close_41.Goals as goal
 
 pub returns : goal.returns
-returns c = rw c.free-l.ensures at c.close.ensures.0
+returns c = rw c.free.ensures at c.close.ensures.0

@@ -14,6 +14,6 @@ returns c = let s = c.args.s in
       next = record { 0 = s.next.0 + 1 };
       channellow = s.channellow;
       channelnext = c.args.channelnext;
-      numbers = set s.numbers (c.data_place-numberat.ensures.0 i) (record { state = 1; channel = c.args.c; tick = c.args.tick });
-      blocks = set s.blocks (c.channel_place-blockat.ensures.0 i) (record { state = 1; sends = c.args.sends; length = c.args.length });
+      numbers = set s.numbers (c.place-numberat.ensures.0 i) (record { state = 1; channel = c.args.c; tick = c.args.tick });
+      blocks = set s.blocks (c.place-blockat.ensures.0 i) (record { state = 1; sends = c.args.sends; length = c.args.length });
     }

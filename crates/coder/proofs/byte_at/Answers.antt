@@ -21,8 +21,8 @@ run_byte-requires c =
     let a = c.args in
     (rw c.bit_at.ensures (bit_small (get_or a.states.now (a.i + 0) false)), run_fits _ _ _ c.run_at-n.ensures)
 
-pub returns : goal.returns
-returns c =
+pub returns-else-n-le7 : goal.returns-else-n-le7
+returns-else-n-le7 c =
     let a = c.args in
     let run = c.run_at-n in
     c.run_byte.ensures

@@ -1,22 +1,14 @@
 -- `coder::fill` meets its contract. The bytes still to be laid from place i on, over what stands, give the whole; each turn lays one of them.
 -- Assumes nothing.
-use mathlib.Core.Path.{refl, ap}
+use mathlib.Core.Path.{ap}
 use native.Mathlib.Omega.{arith}
 use lib.ListN.{length}
 use borrow.Author.Rules.{rules}
 use Rattle.coder.proofs.Turns.{after_further, vector_place_lem, fill_room, fill_more, fill_end}
 use Rattle.coder.proofs.fill.Goals as goal
 
-pub loop-i-init : goal.loop-i-init
-loop-i-init c = (search rules, search rules, search rules, refl)
-
 pub bounds-out-j : goal.bounds-out-j
 bounds-out-j c =
-    let ss = c.args.states.now in
-    omega (arith, ap length (vector_place_lem ss c.loop-i.i (omega arith)))
-
-pub overflow_add-j : goal.overflow_add-j
-overflow_add-j c =
     let ss = c.args.states.now in
     omega (arith, ap length (vector_place_lem ss c.loop-i.i (omega arith)))
 

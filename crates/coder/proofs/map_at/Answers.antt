@@ -5,34 +5,24 @@ use mathlib.Core.Bool.{false}
 use mathlib.Core.Path.{refl, ◌∙◌}
 use native.Mathlib.Omega.{arith}
 use lib.ListN.{get_or}
-use borrow.Author.Rules.{rules}
 use Rattle.vector.specs.Rule.{map_of}
-use Rattle.coder.proofs.Turns.{bit_small, map_small, map_more, map_end}
+use Rattle.coder.proofs.Turns.{bit_small, map_small, map_more}
 use Rattle.coder.proofs.map_at.Goals as goal
 
 pub loop-k-init : goal.loop-k-init
 unfolding map_of
-loop-k-init c = (search rules, refl)
+loop-k-init c = refl
 
 pub in_front-m-requires : goal.in_front-m-requires
 in_front-m-requires c =
     let a = c.args in
     let l = c.loop-k in (
       rw c.bit_at.ensures (bit_small (get_or a.states.now (a.i + (l.k - 1)) false)),
-      rw l.invariant.1 (map_small _ l.k (omega arith)),
+      rw l.invariant (map_small _ l.k (omega arith)),
     )
 
 pub loop-k-preserved : goal.loop-k-preserved
 loop-k-preserved c =
     let a = c.args in
-    let l = c.loop-k in (
-      search rules,
-      c.in_front-m.ensures
-          ∙ rw (c.bit_at.ensures, l.invariant.1) (map_more a.states.now a.i l.k (omega arith) (omega arith)),
-    )
-
-pub returns : goal.returns
-returns c =
-    let a = c.args in
     let l = c.loop-k in
-    l.invariant.1 ∙ map_end a.states.now a.i l.k (omega arith)
+    c.in_front-m.ensures ∙ rw (c.bit_at.ensures, l.invariant) (map_more a.states.now a.i l.k (omega arith) (omega arith))

@@ -1,7 +1,7 @@
 -- `coder::place_after` meets its contract. A run ends within the range, so only a map can reach past its end.
 -- Assumes nothing.
 use native.Mathlib.Omega.{arith}
-use Rattle.coder.proofs.Turns.{run_within, after_run, after_last, after_map}
+use Rattle.coder.proofs.Turns.{run_within, after_run, after_map}
 use Rattle.coder.proofs.place_after.Goals as goal
 
 pub overflow_add-result : goal.overflow_add-result
@@ -13,12 +13,7 @@ returns-then-n-gt7 c =
     let a = c.args in
     after_run a.states.now a.i _ (omega arith) c.run_at-n.ensures c.if-n-gt7.true
 
-pub returns-then-states-i-lt7 : goal.returns-then-states-i-lt7
-returns-then-states-i-lt7 c =
+pub returns-else-n-gt7 : goal.returns-else-n-gt7
+returns-else-n-gt7 c =
     let a = c.args in
-    after_last a.states.now a.i _ (omega arith) c.run_at-n.ensures (omega arith) (omega arith)
-
-pub returns : goal.returns
-returns c =
-    let a = c.args in
-    after_map a.states.now a.i _ (omega arith) c.run_at-n.ensures (omega arith) (omega arith)
+    omega (arith, after_map a.states.now a.i _ (omega arith) c.run_at-n.ensures (omega arith))

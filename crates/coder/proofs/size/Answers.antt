@@ -1,12 +1,8 @@
 -- `coder::size` meets its contract. The bytes counted, and those of the vector from place i on, give the whole vector.
 -- Assumes nothing.
 use native.Mathlib.Omega.{arith}
-use borrow.Author.Rules.{rules}
 use Rattle.coder.proofs.Turns.{after_further, size_more, size_end}
 use Rattle.coder.proofs.size.Goals as goal
-
-pub loop-i-init : goal.loop-i-init
-loop-i-init c = (search rules, search rules, omega arith)
 
 pub loop-i-smaller : goal.loop-i-smaller
 loop-i-smaller c =

@@ -1,8 +1,8 @@
 -- `coder::write` meets its contract. The buffer is tested against the vector's size before a byte is written, so a refusal leaves it as it is.
 -- Assumes nothing.
+use Rattle.std.specs.Prelude.{Ok}
 use mathlib.Core.Path.{◌∙◌, ap}
 use native.Mathlib.Omega.{arith}
-use Rattle.common.specs.declared.Written.TheVariants.{Wrote}
 use Rattle.vector.specs.Laws.{write_refused, write_done}
 use Rattle.coder.proofs.write.Goals as goal
 
@@ -15,4 +15,4 @@ pub returns : goal.returns
 returns c =
     let a = c.args in
     let d = write_done a.states.now a.out.now (omega arith) in
-    record { answer = ap Wrote c.size-n.ensures ∙ d.0; bytes = c.fill.ensures ∙ d.1 }
+    record { answer = rw c.size-n.ensures d.0; bytes = c.fill.ensures ∙ d.1 }

@@ -1,5 +1,5 @@
 -- Every call leaves its history and its record in agreement.
-use Rattle.std.specs.Prelude.{ℕ, ◌≤◌, ◌<◌, Bool, List, ◌∷◌, ◌++◌, ◌≡◌, length}
+use Rattle.std.specs.Prelude.{ℕ, ◌≤◌, ◌<◌, Bool, List, ◌∷◌, ◌++◌, ◌≡◌, length, Err, Ok, Some, None}
 use Rattle.std.proofs.Math.Bool.{true, false, cond}
 use Rattle.std.proofs.Math.Logic.{⊎_elim}
 use Rattle.std.proofs.Math.Option.{Option, none, some}
@@ -9,9 +9,7 @@ use Rattle.std.proofs.Math.Dec.{eqb}
 use borrow.Author.Tests.{eqb-true, eqb-false, eq-eqb}
 use Rattle.common.specs.Facts.{bool, clash}
 use Rattle.wire.specs.declared.Packet.{Packet}
-use Rattle.wire.specs.declared.Reading.{Reading}
-use Rattle.wire.specs.declared.Reading.TheVariants.{Refused, Dummy, Read}
-use Rattle.wire.specs.Read.{read_of}
+use Rattle.wire.specs.Read.{read_of, Reading}
 use Rattle.receiver.specs.Consistent as receiver_tests
 use Rattle.receiver.specs.Receive as receiver
 use Rattle.sender.specs.declared.Sender.{Sender}
@@ -53,9 +51,9 @@ module _ (w cap : ℕ) (e : Halves) (d : List ℕ) (hs : consistent_of w cap e.s
   read_accepts : (x : Reading) → read_answer w e d x ≡ 0
       → ((read_into w e d x).sender ≡ sender.read_into w e.sender d x) × (sender.read_answer e.sender d x ≡ 0)
   unfolding read_answer read_into sender.read_answer sender.read_into packet_of sender.packet_of
-  read_accepts (Refused n) h = (refl, h)
-  read_accepts Dummy h = (refl, h)
-  read_accepts (Read p) h =
+  read_accepts (Err n) h = (refl, h)
+  read_accepts (Ok None) h = (refl, h)
+  read_accepts (Ok (Some p)) h =
       let k = told_accepts p h in (
         ap (λ (n : ℕ). (cond (eqb n 0) (packet_told w e d p) e).sender) h
             ∙ sym (ap (λ (n : ℕ). cond (eqb n 0) (sender.packet_told w e.sender d p) e.sender) k),

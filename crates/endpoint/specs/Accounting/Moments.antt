@@ -2,7 +2,7 @@
 use Prim.Native.Nat.{ℕ}
 use Rattle.std.proofs.Math.Bool.{Bool, true, false, cond}
 use mathlib.Core.List.{List, [], ◌∷◌, ◌++◌}
-use Rattle.std.specs.Prelude.{◌⊎◌, ◌≡◌}
+use Rattle.std.specs.Prelude.{◌⊎◌, ◌≡◌, Err, Ok, Some, None}
 use Rattle.std.proofs.Math.Logic.{inl, inr, ⊎_elim}
 use Rattle.std.proofs.Math.Option.{Option, none, some}
 use Rattle.std.proofs.Math.Path.{refl, ap, subst}
@@ -10,9 +10,7 @@ use Rattle.std.proofs.Common.{sym, ◌∙◌, eqb-true, eq-eqb}
 use Rattle.std.proofs.Math.Dec.{eqb}
 use Rattle.common.specs.Facts.{bool, clash, or_left, or_right, or_cases}
 use Rattle.wire.specs.declared.Packet.{Packet}
-use Rattle.wire.specs.declared.Reading.{Reading}
-use Rattle.wire.specs.declared.Reading.TheVariants.{Refused, Dummy, Read}
-use Rattle.wire.specs.Read.{read_of}
+use Rattle.wire.specs.Read.{read_of, Reading}
 use Rattle.sender.specs.declared.Sender.{Sender}
 use Rattle.sender.specs.Acknowledge.{told_names, told_by}
 use Rattle.sender.specs.Tells.{tells}
@@ -24,14 +22,14 @@ use Rattle.endpoint.specs.Accounting.Entries.{gone_any, any_gone}
 
 -- A datagram that names a number is a packet.
 reads_as : (s : Sender) (d : List ℕ) (n : ℕ) → told_names (tells s d (read_of d)) n ≡ true
-    → (p : Packet) × (read_of d ≡ Read p) × (told_names (told_by s d p) n ≡ true)
+    → (p : Packet) × (read_of d ≡ Ok (Some p)) × (told_names (told_by s d p) n ≡ true)
 unfolding tells told_names
 reads_as s d n t = go (read_of d) refl t
   where
-    go : (r : Reading) → read_of d ≡ r → told_names (tells s d r) n ≡ true → (p : Packet) × (read_of d ≡ Read p) × (told_names (told_by s d p) n ≡ true)
-    go (Refused k) e t = clash false t refl
-    go Dummy e t = clash false t refl
-    go (Read p) e t = (p, e, t)
+    go : (r : Reading) → read_of d ≡ r → told_names (tells s d r) n ≡ true → (p : Packet) × (read_of d ≡ Ok (Some p)) × (told_names (told_by s d p) n ≡ true)
+    go (Err k) e t = clash false t refl
+    go (Ok None) e t = clash false t refl
+    go (Ok (Some p)) e t = (p, e, t)
 
 -- What is acknowledged stays so.
 stays : (c : ℕ) (l h : List Entry) → acknowledged_in h c ≡ true → acknowledged_in (l ++ h) c ≡ true

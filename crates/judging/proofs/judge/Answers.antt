@@ -1,5 +1,6 @@
 -- `judging::judge` meets its contract: each way out is an instance of a law of Consistency and Judging.
 use mathlib.Core.Path.{sym, ◌∙◌}
+use Rattle.std.proofs.lemmas.Result.{err_from_is_err_and}
 use Rattle.receiver.specs.Facts.{consistent_facts}
 use Rattle.judging.proofs.Judging.{content_waived, content_number, content_channel, content_refused, content_accepted, waiver_absent, waiver_out, waiver_high, waiver_given}
 use Rattle.judging.proofs.judge.Goals as goal
@@ -14,27 +15,27 @@ returns-in_default c =
     (sym c.flag.ensures ∙ c.if-flag.true) _ _
     c.flag-aoa.ensures c.waived_to.ensures c.in_default.is
 
-pub data_number-requires : goal.data_number-requires
-data_number-requires c = (consistent_facts 32 32 _ c.requires).base_range
+pub number_at-requires : goal.number_at-requires
+number_at-requires c = (consistent_facts 32 32 _ c.requires).base_range
 
-pub returns-in_default-data_number : goal.returns-in_default-data_number
-returns-in_default-data_number c =
+pub returns-in_default-number_at : goal.returns-in_default-number_at
+returns-in_default-number_at c =
     content_number _ c.args.r
     c.args.v
     (sym c.flag.ensures ∙
-    c.if-flag.true) _ c.data_number.ensures c.in_default-data_number.is
+    c.if-flag.true) _ c.number_at.ensures c.in_default-number_at.is
 
-pub channel_number-requires : goal.channel_number-requires
-channel_number-requires c = (consistent_facts 32 32 _ c.requires).due_range
+pub number_at-requires-then-flag : goal.number_at-requires-then-flag
+number_at-requires-then-flag c = (consistent_facts 32 32 _ c.requires).due_range
 
-pub returns-in_default-channel_number : goal.returns-in_default-channel_number
-returns-in_default-channel_number c =
+pub returns-in_default-number_at-2 : goal.returns-in_default-number_at-2
+returns-in_default-number_at-2 c =
     content_channel _
     c.args.r
     c.args.v
     (sym c.flag.ensures ∙
-    c.if-flag.true) _ c.channel_number.ensures
-    c.in_default-channel_number.is
+    c.if-flag.true) _ c.number_at-then-flag.ensures
+    c.in_default-number_at-2.is
 
 pub number_answer-requires : goal.number_answer-requires
 number_answer-requires c =
@@ -42,41 +43,27 @@ number_answer-requires c =
     c.requires in
     (f.base_range, f.due_range)
 
-pub returns-then-number_answer-ne0 : goal.returns-then-number_answer-ne0
-returns-then-number_answer-ne0 c =
-    content_refused _
-    c.args.r
-    c.args.v
-    (sym c.flag.ensures ∙
-    c.if-flag.true) _ _ _ _ _ _ _ _
-    c.flag-aoa.ensures
-    c.waived_to.ensures
-    c.in-At.is
-    c.data_number.ensures c.in-At-data_number.is
-    c.channel_number.ensures c.in-At-channel_number.is c.number_answer.ensures c.if-number_answer-ne0.true
+pub returns-in_err-number_answer : goal.returns-in_err-number_answer
+returns-in_err-number_answer c =
+    let p = err_from_is_err_and c.from_residual.result c.from_residual.ensures.1 in
+    rw (p.1, p.2)
+    (content_refused _ c.args.r c.args.v (sym c.flag.ensures ∙ c.if-flag.true) _ _ _ _ _ _ _ c.flag-aoa.ensures c.waived_to.ensures c.in-Some.is
+    c.number_at.ensures c.in-Some-number_at.is c.number_at-then-flag.ensures c.in-Some-number_at-2.is _ c.in_err-number_answer.ensures)
 
 pub returns-then-flag : goal.returns-then-flag
 returns-then-flag c =
-    content_accepted _
-    c.args.r
-    c.args.v
-    (sym c.flag.ensures ∙
-    c.if-flag.true) _ _ _ _ _ _ _ _
-    c.flag-aoa.ensures
-    c.waived_to.ensures
-    c.in-At.is
-    c.data_number.ensures c.in-At-data_number.is
-    c.channel_number.ensures c.in-At-channel_number.is c.number_answer.ensures c.if-number_answer-ne0.false
+    content_accepted _ c.args.r c.args.v (sym c.flag.ensures ∙ c.if-flag.true) _ _ _ _ _ _ _ c.flag-aoa.ensures c.waived_to.ensures c.in-Some.is
+    c.number_at.ensures c.in-Some-number_at.is c.number_at-then-flag.ensures c.in-Some-number_at-2.is _ c.in_ok-number_answer.ensures
 
-pub data_number-requires-then-aoa : goal.data_number-requires-then-aoa
-data_number-requires-then-aoa c = (consistent_facts 32 32 _ c.requires).base_range
+pub number_at-requires-then-aoa : goal.number_at-requires-then-aoa
+number_at-requires-then-aoa c = (consistent_facts 32 32 _ c.requires).base_range
 
-pub returns-in_default-data_number-2 : goal.returns-in_default-data_number-2
-returns-in_default-data_number-2 c =
+pub returns-in_default-number_at-3 : goal.returns-in_default-number_at-3
+returns-in_default-number_at-3 c =
     waiver_out _ c.args.r
     c.args.v _ c.flag.ensures
     c.if-flag.false _ c.flag-aoa.ensures c.if-aoa.true _
-    c.data_number-then-aoa.ensures c.in_default-data_number-2.is
+    c.number_at-then-aoa.ensures c.in_default-number_at-3.is
 
 pub returns-then-u-gt-HIGHEST : goal.returns-then-u-gt-HIGHEST
 returns-then-u-gt-HIGHEST c =
@@ -84,7 +71,7 @@ returns-then-u-gt-HIGHEST c =
     c.args.v _
     c.flag.ensures c.if-flag.false _
     c.flag-aoa.ensures c.if-aoa.true _
-    c.data_number-then-aoa.ensures _ c.in-At-data_number-2.is c.if-u-gt-HIGHEST.true
+    c.number_at-then-aoa.ensures _ c.in-Some-number_at-3.is c.if-u-gt-HIGHEST.true
 
 pub returns-then-aoa : goal.returns-then-aoa
 returns-then-aoa c =
@@ -92,7 +79,7 @@ returns-then-aoa c =
     c.args.v _
     c.flag.ensures c.if-flag.false _
     c.flag-aoa.ensures c.if-aoa.true _
-    c.data_number-then-aoa.ensures _ c.in-At-data_number-2.is c.if-u-gt-HIGHEST.false
+    c.number_at-then-aoa.ensures _ c.in-Some-number_at-3.is c.if-u-gt-HIGHEST.false
 
 pub returns : goal.returns
 returns c =

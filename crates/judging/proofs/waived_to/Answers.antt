@@ -3,7 +3,7 @@ use Rattle.judging.proofs.Fields.{aoa_given, aoa_absent}
 use Rattle.judging.proofs.waived_to.Goals as goal
 
 pub returns-then-flag : goal.returns-then-flag
-returns-then-flag c = aoa_given _ _ _ c.if-flag.true c.data_number.ensures
+returns-then-flag c = aoa_given _ _ _ c.if-flag.true c.number_at.ensures
 
-pub returns : goal.returns
-returns c = aoa_absent _ _ c.if-flag.false
+pub returns-else-flag : goal.returns-else-flag
+returns-else-flag c = aoa_absent _ _ c.if-flag.false

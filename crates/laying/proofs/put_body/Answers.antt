@@ -6,14 +6,8 @@ use Rattle.wire.specs.Write.{word_bytes}
 use Rattle.laying.proofs.Given.{given_room, laid_on, laid_off}
 use Rattle.laying.proofs.put_body.Goals as goal
 
-pub put_word-rest-requires : goal.put_word-rest-requires
-put_word-rest-requires c = omega (arith, given_room _ (word_bytes c.args.channel ++ c.args.body.now) _ _ c.if-flag.true c.requires)
-
-pub lay-requires : goal.lay-requires
-lay-requires c = omega (arith, given_room _ (word_bytes c.args.channel ++ c.args.body.now) _ _ c.if-flag.true c.requires)
-
 pub returns-then-flag : goal.returns-then-flag
 returns-then-flag c = laid_on _ _ c.if-flag.true (laid_then (omega (arith, given_room _ (word_bytes c.args.channel ++ c.args.body.now) _ _ c.if-flag.true c.requires)) c.put_word-rest.ensures c.lay.ensures)
 
-pub returns : goal.returns
-returns c = laid_off _ _ _ _ c.if-flag.false
+pub returns-else-flag : goal.returns-else-flag
+returns-else-flag c = laid_off _ _ _ _ c.if-flag.false

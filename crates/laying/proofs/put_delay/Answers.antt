@@ -5,14 +5,8 @@ use Rattle.wire.specs.Write.{delay_bytes}
 use Rattle.laying.proofs.Given.{given_room, laid_on, laid_off}
 use Rattle.laying.proofs.put_delay.Goals as goal
 
-pub lay_byte-timeout-requires : goal.lay_byte-timeout-requires
-lay_byte-timeout-requires c = omega (arith, given_room _ (delay_bytes c.args.delay) _ _ c.if-flag.true c.requires)
-
-pub put_word-requires : goal.put_word-requires
-put_word-requires c = omega (arith, given_room _ (delay_bytes c.args.delay) _ _ c.if-flag.true c.requires)
-
 pub returns-then-flag : goal.returns-then-flag
 returns-then-flag c = laid_on _ _ c.if-flag.true (laid_then (omega (arith, given_room _ (delay_bytes c.args.delay) _ _ c.if-flag.true c.requires)) c.lay_byte-timeout.ensures c.put_word.ensures)
 
-pub returns : goal.returns
-returns c = laid_off _ _ _ _ c.if-flag.false
+pub returns-else-flag : goal.returns-else-flag
+returns-else-flag c = laid_off _ _ _ _ c.if-flag.false

@@ -6,8 +6,5 @@ use Rattle.receiver.specs.Record.{is_marked}
 use Rattle.marking.specs.Marks.{win_of}
 use Rattle.marking.proofs.advance.Given as goal
 
-abbrev pub invariant-loop-k : goal.invariant-loop-k
-invariant-loop-k l = (l.k ≤ 32) × (l.next.base.0 ≤ l.initial.next.base.0 + l.k) × (slid 0 32 is_marked (32 - l.k) (win_of l.next) ≡ slid 0 32 is_marked 32 (win_of l.initial.next))
-
-abbrev pub decreases-loop-k : goal.decreases-loop-k
-decreases-loop-k l = 32 - l.k
+abbrev pub invariant-loop : goal.invariant-loop
+invariant-loop l = (l.next.base.0 ≤ l.initial.next.base.0 + l.counter) × (slid 0 32 is_marked (32 - l.counter) (win_of l.next) ≡ slid 0 32 is_marked 32 (win_of l.initial.next))

@@ -7,4 +7,4 @@ pub returns-then-n-m : goal.returns-then-n-m
 returns-then-n-m c = (mark_below 32 _ _ c.if-n-m.true, refl)
 
 pub returns : goal.returns
-returns c = (mark_within 32 _ _ _ c.if-n-m.false c.data_place-at.ensures.0, refl)
+returns c = (mark_within 32 _ _ _ c.if-n-m.false c.place-at.ensures.0, refl)

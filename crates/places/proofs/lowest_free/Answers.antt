@@ -6,11 +6,11 @@ use Rattle.places.proofs.lowest_free.Goals as goal
 
 pub returns-then-is_free : goal.returns-then-is_free
 returns-then-is_free c =
-    let found : lowest_of c.args.list.now ≤ c.loop-i.i = lowest_found _ _ _ c.loop-i-test.true (sym c.is_free.ensures ∙ c.if-is_free.true) in
+    let found : lowest_of c.args.list.now ≤ c.loop-i.i = lowest_found c.args.list.now c.loop-i.i _ (omega arith) (sym c.is_free.ensures ∙ c.if-is_free.true) in
     omega arith
 
 pub loop-i-preserved : goal.loop-i-preserved
-loop-i-preserved c = rw add-one (lowest_above _ _ _ c.loop-i-test.true (sym c.is_free.ensures ∙ c.if-is_free.false) c.loop-i.invariant)
+loop-i-preserved c = rw add-one (lowest_above c.args.list.now c.loop-i.i _ (omega arith) (sym c.is_free.ensures ∙ c.if-is_free.false) c.loop-i.invariant)
 
 pub returns : goal.returns
 returns c = omega (arith, lowest_within c.args.list.now)

@@ -1,14 +1,12 @@
 -- Each call keeps a record consistent and a store at its size.
-use Rattle.std.specs.Prelude.{ℕ, ◌≤◌, ◌<◌, Bool, true, false, cond, List, [], ◌∷◌, ◌≡◌, refl, eqb, ltb, length}
+use Rattle.std.specs.Prelude.{ℕ, ◌≤◌, ◌<◌, Bool, true, false, cond, List, [], ◌∷◌, ◌≡◌, refl, eqb, ltb, length, Err, Ok, Some, None}
 use Rattle.std.proofs.Math.Option.{Option, none, some}
 use Rattle.std.proofs.Common.{sym, ◌∙◌, arith, eqb-true, ltb-false}
 use Rattle.common.specs.Order.{test}
 use Rattle.numbers.specs.Full.{highest}
 use Rattle.window.specs.Store.{place_size}
 use Rattle.wire.specs.Round.Tests.{all_pass}
-use Rattle.wire.specs.declared.Reading.{Reading}
-use Rattle.wire.specs.declared.Reading.TheVariants.{Refused, Dummy, Read}
-use Rattle.wire.specs.Read.{read_of}
+use Rattle.wire.specs.Read.{read_of, Reading}
 use Rattle.wire.specs.Same.{body_in}
 use Rattle.receiver.specs.declared.Receiver.{Receiver}
 use Rattle.receiver.specs.Record.{State}
@@ -77,9 +75,9 @@ brought_sound w cap s (some a) pos fits short h = arrival_sound w cap s a pos fi
 
 read_sound : (w cap : ℕ) (s : State) (d : List ℕ) (x : Reading) → read_of d ≡ x → 0 < w → w ≤ cap → Sound w cap s → Sound w cap (read_into w s d x)
 unfolding read_into values_of
-read_sound w cap s d (Refused n) e pos fits h = h
-read_sound w cap s d Dummy e pos fits h = h
-read_sound w cap s d (Read p) e pos fits h =
+read_sound w cap s d (Err n) e pos fits h = h
+read_sound w cap s d (Ok None) e pos fits h = h
+read_sound w cap s d (Ok (Some p)) e pos fits h =
     brought_sound w cap s (arrival_from s.receiver p.values (body_in d p)) pos fits
     (brought_short s.receiver p.values (body_in d p) (λ t. let k = read_block d p e t in omega (arith, k.long, k.short))) h
 

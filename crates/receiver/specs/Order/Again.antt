@@ -1,5 +1,5 @@
 -- A datagram of the set brings the same packet whatever the record has come to: widened against a near reference, a field gives the same number.
-use Rattle.std.specs.Prelude.{ℕ, ◌+◌, ◌≤◌, ◌<◌, Bool, cond, List, ◌≡◌, refl, ltb}
+use Rattle.std.specs.Prelude.{ℕ, ◌+◌, ◌≤◌, ◌<◌, Bool, cond, List, ◌≡◌, refl, ltb, Ok, Some}
 use Rattle.std.proofs.Math.Bool.{true, false}
 use Rattle.std.proofs.Math.Option.{Option, none, some}
 use Rattle.std.proofs.Common.{sym, ◌∙◌, ap, arith, le-ltb, ltb-false}
@@ -10,7 +10,6 @@ use Rattle.numbers.specs.Widen.{widen_of}
 use Rattle.numbers.specs.Nearest.{Near, widen_near, widen_only}
 use Rattle.wire.specs.declared.Values.{Values}
 use Rattle.wire.specs.declared.Packet.{Packet as WirePacket}
-use Rattle.wire.specs.declared.Reading.TheVariants.{Read}
 use Rattle.wire.specs.Flags.{data_in, aoa_in}
 use Rattle.wire.specs.Frame.{word_at, swapped}
 use Rattle.wire.specs.Layout.{sized, flags_of, delay_end, aoa_end, vector_end, values_of, packet_of}
@@ -35,7 +34,7 @@ word_small : (flag : Bool) (p : List ℕ) (at : ℕ) → Bytes p → sized flag 
 word_small true p at small = omega (arith, small at, small (at + 1))
 word_small false p at small = omega arith
 
-read_words : (d : List ℕ) (p : WirePacket) → Bytes d → read_of d ≡ Read p → Words p.values
+read_words : (d : List ℕ) (p : WirePacket) → Bytes d → read_of d ≡ Ok (Some p) → Words p.values
 unfolding packet_of values_of
 read_words d p small e =
     let (facts, same) = read_found d p e in
@@ -50,7 +49,7 @@ read_words d p small e =
 
 -- One number.
 
-in_place_lem : (first : ℕ) (x : Widened) (n : ℕ) → in_place first x ≡ some n → (x ≡ At n) × (first ≤ n)
+in_place_lem : (first : ℕ) (x : Widened ℕ) (n : ℕ) → in_place first x ≡ some n → (x ≡ At n) × (first ≤ n)
 in_place_lem first (At m) n e = go (ltb m first) refl e
   where
     go : (b : Bool) → ltb m first ≡ b → cond b none (some m) ≡ some n → (At m ≡ At n) × (first ≤ n)

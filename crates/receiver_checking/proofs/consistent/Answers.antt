@@ -9,7 +9,7 @@ pub returns-then-not-bounds_fit : goal.returns-then-not-bounds_fit
 returns-then-not-bounds_fit c = bounds_fail 32 c.args.r _ c.bounds_fit.ensures c.if-not-bounds_fit.true
 
 pub returns-then-r-at-eq1 : goal.returns-then-r-at-eq1
-returns-then-r-at-eq1 c = base_fails 32 c.args.r _ c.data_place-at.ensures.0 c.if-r-at-eq1.true
+returns-then-r-at-eq1 c = base_fails 32 c.args.r _ c.place-at.ensures.0 c.if-r-at-eq1.true
 
 pub overflow_add-base : goal.overflow_add-base
 overflow_add-base c = omega (arith, (bounds_told c.args.r _ c.bounds_fit.ensures c.if-not-bounds_fit.false).base_fits)
@@ -18,10 +18,10 @@ pub returns-then-base-end : goal.returns-then-base-end
 returns-then-base-end c = end_fails 32 c.args.r c.if-base-end.true
 
 pub loop-i-init : goal.loop-i-init
-loop-i-init c = (search rules, raised_none _ _)
+loop-i-init c = raised_none _ _
 
 pub loop-i-preserved : goal.loop-i-preserved
-loop-i-preserved c = (search rules, raised_more _ (mark_placed 32 c.args.r) _ _ _ c.loop-i.invariant.1 (rw (c.past.ensures, c.count-span.ensures) at c.mark_wrong-wrong.ensures))
+loop-i-preserved c = raised_more _ (mark_placed 32 c.args.r) _ _ _ c.loop-i.invariant (rw (c.past.ensures, c.count-span.ensures) at c.mark_wrong-wrong.ensures)
 
 pub loop-k-init : goal.loop-k-init
 loop-k-init c = (search rules, raised_none _ _)
@@ -30,13 +30,13 @@ pub loop-k-preserved : goal.loop-k-preserved
 loop-k-preserved c = (search rules, raised_more _ (kept_placed c.args.r) _ _ _ c.loop-k.invariant.1 c.hold_wrong-wrong.ensures)
 
 pub returns-then-wrong : goal.returns-then-wrong
-returns-then-wrong c = places_fail 32 c.args.r _ (raised_twice _ _ 32 32 _ _ _ _ (omega arith) (omega arith) c.loop-i.invariant.1 c.loop-k.invariant.1) c.if-wrong.true
+returns-then-wrong c = places_fail 32 c.args.r _ (raised_twice _ _ 32 32 _ _ _ _ (omega arith) (omega arith) c.loop-i.invariant c.loop-k.invariant.1) c.if-wrong.true
 
 pub returns-then-beyond : goal.returns-then-beyond
 returns-then-beyond c = beyond_fails 32 c.args.r _ (rw c.count.ensures at c.beyond.ensures) c.if-beyond.true
 
 pub returns-then-base-end-2 : goal.returns-then-base-end-2
-returns-then-base-end-2 c = end_decides 32 c.args.r (search (rules, unmapped)) (search (rules, unmapped)) _ c.bounds_fit.ensures c.if-not-bounds_fit.false _ c.data_place-at.ensures.0 c.if-r-at-eq1.false c.if-base-end.false _ (raised_twice _ _ 32 32 _ _ _ _ (omega arith) (omega arith) c.loop-i.invariant.1 c.loop-k.invariant.1) c.if-wrong.false _ (rw c.count.ensures at c.beyond.ensures) c.if-beyond.false _ c.if-base-end-2.true c.data_place-at-then-base-end-2.ensures.0
+returns-then-base-end-2 c = end_decides 32 c.args.r (search (rules, unmapped)) (search (rules, unmapped)) _ c.bounds_fit.ensures c.if-not-bounds_fit.false _ c.place-at.ensures.0 c.if-r-at-eq1.false c.if-base-end.false _ (raised_twice _ _ 32 32 _ _ _ _ (omega arith) (omega arith) c.loop-i.invariant c.loop-k.invariant.1) c.if-wrong.false _ (rw c.count.ensures at c.beyond.ensures) c.if-beyond.false _ c.if-base-end-2.true c.place-at-then-base-end-2.ensures.0
 
 pub returns : goal.returns
-returns c = end_low_lem 32 c.args.r (search (rules, unmapped)) (search (rules, unmapped)) _ c.bounds_fit.ensures c.if-not-bounds_fit.false _ c.data_place-at.ensures.0 c.if-r-at-eq1.false c.if-base-end.false _ (raised_twice _ _ 32 32 _ _ _ _ (omega arith) (omega arith) c.loop-i.invariant.1 c.loop-k.invariant.1) c.if-wrong.false _ (rw c.count.ensures at c.beyond.ensures) c.if-beyond.false c.if-base-end-2.false
+returns c = end_low_lem 32 c.args.r (search (rules, unmapped)) (search (rules, unmapped)) _ c.bounds_fit.ensures c.if-not-bounds_fit.false _ c.place-at.ensures.0 c.if-r-at-eq1.false c.if-base-end.false _ (raised_twice _ _ 32 32 _ _ _ _ (omega arith) (omega arith) c.loop-i.invariant c.loop-k.invariant.1) c.if-wrong.false _ (rw c.count.ensures at c.beyond.ensures) c.if-beyond.false c.if-base-end-2.false

@@ -6,10 +6,7 @@ use Rattle.receiver_checking.proofs.Consistency.{mark_placed, kept_placed}
 use Rattle.receiver_checking.proofs.consistent.Given as goal
 
 abbrev pub invariant-loop-i : goal.invariant-loop-i
-invariant-loop-i l = (l.i ≤ 32) × (l.wrong ≡ raised l.initial.wrong (mark_placed 32 l.r) l.i)
-
-abbrev pub decreases-loop-i : goal.decreases-loop-i
-decreases-loop-i l = 32 - l.i
+invariant-loop-i l = l.wrong ≡ raised l.initial.wrong (mark_placed 32 l.fn.r) l.i
 
 abbrev pub invariant-loop-k : goal.invariant-loop-k
 invariant-loop-k l = (l.k ≤ 32) × (l.wrong ≡ raised l.initial.wrong (kept_placed l.r) l.k)

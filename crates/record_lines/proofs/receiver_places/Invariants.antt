@@ -1,11 +1,8 @@
 -- `receiver_places` meets its contract: the places below i are laid, and each turn lays the next behind them.
-use Prim.Native.Nat.{◌-◌, ◌*◌, ◌≤◌}
+use Prim.Native.Nat.{◌*◌}
 use Rattle.text.specs.Within.{LaidWithin}
 use Rattle.record_lines.specs.Record.{receiver_place, all_places}
 use Rattle.record_lines.proofs.receiver_places.Given as goal
 
 abbrev pub invariant-loop-i : goal.invariant-loop-i
-invariant-loop-i l = (l.i ≤ 32) × LaidWithin (131 * l.i) (all_places (receiver_place l.r) l.i) l.initial.out l.at l.out l.to
-
-abbrev pub decreases-loop-i : goal.decreases-loop-i
-decreases-loop-i l = 32 - l.i
+invariant-loop-i l = LaidWithin (131 * l.i) (all_places (receiver_place l.r) l.i) l.initial.out l.at l.out l.to

@@ -1,16 +1,18 @@
 -- The loop of receiving: what each call ensures is one step more of `after` and `answered`.
 use Prim.Native.Nat.{min}
-use mathlib.Core.Path.{◌≡◌}
+use mathlib.Core.Path.{◌≡◌, ◌∙◌, ap}
 use native.Mathlib.Omega.{arith}
 use lib.ListN.{length}
 use borrow.Author.Rules.{rules}
+use Rattle.common.specs.Answer.{number_of, number_answered}
+use Rattle.endpoint.specs.Known.{receive_known}
 use Rattle.repeating.specs.Calls.{start_none, start_more, start_within, part_is}
 use Rattle.repeating.proofs.Going.{going_none, going_more, going_state, going_answers}
 use Rattle.repeating.proofs.Stepped.{receive_steps}
 use Rattle.repeated_receive.proofs.receive.Goals as goal
 
 pub loop-i-init : goal.loop-i-init
-loop-i-init c = (search rules, search rules, start_none _ _, going_none _ _ _ _)
+loop-i-init c = (search rules, start_none _ _, going_none _ _ _ _)
 
 pub slice_bounds-receive-end : goal.slice_bounds-receive-end
 slice_bounds-receive-end c = omega (arith, start_within c.args.bytes.now c.args.ends.now c.loop-i.i)
@@ -19,12 +21,17 @@ pub loop-i-preserved : goal.loop-i-preserved
 loop-i-preserved c =
     let a = c.args in
     let l = c.loop-i in
-    let ended = start_more a.bytes.now a.ends.now l.i _ _ l.invariant.2 c.end_of-end.ensures in
-    let part = part_is a.bytes.now a.ends.now l.i _ _ l.invariant.2 ended in
-    (search rules, search rules, ended, going_more _ _ _ _ _ _ _ _ _ l.invariant.3 (receive_steps 32 _ _ _ _ _ _ _ _ _ _ part c.receive-y.ensures.sender c.receive-y.ensures.receiver c.receive-y.ensures.bytes) (rw part at c.receive-y.ensures.answer))
+    let ended = start_more a.bytes.now a.ends.now l.i _ _ l.invariant.1 c.end_of-end.ensures in
+    let part = part_is a.bytes.now a.ends.now l.i _ _ l.invariant.1 ended in (
+      search rules,
+      ended,
+      going_more _ _ _ _ _ _ _ _ _ l.invariant.2
+          (receive_steps 32 _ _ _ _ _ _ _ _ _ _ part c.receive-y.ensures.sender c.receive-y.ensures.receiver c.receive-y.ensures.bytes)
+          (c.number.ensures ∙ ap number_of (rw part at c.receive-y.ensures.answer) ∙ number_answered _ (receive_known 32 32 _ _)),
+    )
 
 pub returns : goal.returns
 returns c =
     let l = c.loop-i in
     let e : l.i ≡ min (length c.args.ends.now) (length c.args.answers.now) = omega arith in
-    record { «record» = going_state _ l.invariant.3 e; answers = going_answers _ l.invariant.3 e }
+    record { «record» = going_state _ l.invariant.2 e; answers = going_answers _ l.invariant.2 e }

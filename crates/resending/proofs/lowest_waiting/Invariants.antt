@@ -5,7 +5,4 @@ use Rattle.sender.specs.Send.{waiting_from, lowest_waiting}
 use Rattle.resending.proofs.lowest_waiting.Given as goal
 
 abbrev pub invariant-loop-c : goal.invariant-loop-c
-invariant-loop-c l = waiting_from 32 l.s l.c (l.next - l.c) ≡ lowest_waiting 32 l.s
-
-abbrev pub decreases-loop-c : goal.decreases-loop-c
-decreases-loop-c l = l.next - l.c
+invariant-loop-c l = waiting_from 32 l.s l.c (l.s.channelnext.0 - l.c) ≡ lowest_waiting 32 l.s

@@ -1,9 +1,7 @@
--- `sender::limit` meets its contract: each way out is an instance of a law.
-use Rattle.sender.proofs.Powers.{limit_wide, limit_narrow}
+-- `sender::limit` meets its contract: 2 to the smaller of two powers is the smaller of two numbers.
+use borrow.Author.Rules.{rules}
+use Rattle.sender.proofs.Powers.{limit_is}
 use Rattle.sender.proofs.limit.Goals as goal
 
-pub returns-then-logwindow-ge-WINDOW_POWER : goal.returns-then-logwindow-ge-WINDOW_POWER
-returns-then-logwindow-ge-WINDOW_POWER c = limit_wide _ c.if-logwindow-ge-WINDOW_POWER.true
-
 pub returns : goal.returns
-returns c = limit_narrow _ c.if-logwindow-ge-WINDOW_POWER.false
+returns c = limit_is c.args.logwindow c.min.result (search rules)

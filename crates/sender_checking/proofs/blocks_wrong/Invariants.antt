@@ -1,12 +1,8 @@
 -- `sender_checking::blocks_wrong` meets its contract: its loop's flag is raised where channel low's place or a place before it is wrong.
-use Prim.Native.Nat.{◌-◌, ◌≤◌}
 use mathlib.Core.Path.{◌≡◌}
 use Rattle.common.specs.EveryLaws.{raised}
 use Rattle.sender_checking.specs.Checking.{block_placed}
 use Rattle.sender_checking.proofs.blocks_wrong.Given as goal
 
 abbrev pub invariant-loop-k : goal.invariant-loop-k
-invariant-loop-k l = (l.k ≤ 32) × (l.wrong ≡ raised l.initial.wrong (block_placed 32 l.blocks l.marks l.low.0 l.next) l.k)
-
-abbrev pub decreases-loop-k : goal.decreases-loop-k
-decreases-loop-k l = 32 - l.k
+invariant-loop-k l = l.wrong ≡ raised l.initial.wrong (block_placed 32 l.fn.blocks l.marks l.low.0 l.next) l.k

@@ -5,16 +5,10 @@ use Rattle.sender_checking.proofs.Placed.{number_placed_lem, numbers_raised}
 use Rattle.sender_checking.proofs.numbers_wrong.Goals as goal
 
 pub loop-j-init : goal.loop-j-init
-loop-j-init c = (omega arith, raised_none _ _)
-
-pub overflow_add-j : goal.overflow_add-j
-overflow_add-j c = omega arith
-
-pub loop-j-smaller : goal.loop-j-smaller
-loop-j-smaller c = omega arith
+loop-j-init c = raised_none _ _
 
 pub loop-j-preserved : goal.loop-j-preserved
-loop-j-preserved c = (omega arith, raised_more _ _ _ _ _ c.loop-j.invariant.1 (number_placed_lem 32 _ _ _ _ _ _ _ c.past.ensures c.count-count.ensures c.number_wrong-wrong.ensures))
+loop-j-preserved c = raised_more _ _ _ _ _ c.loop-j.invariant (number_placed_lem 32 _ _ _ _ _ _ _ c.past.ensures c.count-count.ensures c.number_wrong-wrong.ensures)
 
 pub returns : goal.returns
-returns c = numbers_raised 32 _ _ _ _ _ _ _ (omega arith) c.data_place-lowat.ensures.0 c.passes-wrong.ensures c.loop-j.invariant.1
+returns c = numbers_raised 32 _ _ _ _ _ _ _ (omega arith) c.place-lowat.ensures.0 c.passes-wrong.ensures c.loop-j.invariant

@@ -1,27 +1,19 @@
 -- `sender_checking::walk_numbers` meets its contract: each number is an instance of a law, and so is the way out.
 use Prim.Native.Nat.{◌-◌}
+use mathlib.Core.Path.{◌≡◌}
 use native.Mathlib.Omega.{arith}
 use borrow.Author.Rules.{rules}
-use Rattle.sender_checking.proofs.Walking.{walk_none, walk_within, walk_more, walk_end}
+use Rattle.sender_checking.proofs.Walking.{walk_none, walk_stops, walk_more, walk_end}
 use Rattle.sender_checking.proofs.walk_numbers.Goals as goal
 
-pub overflow_sub-span : goal.overflow_sub-span
-overflow_sub-span c = c.requires.forth
+pub loop-n-init : goal.loop-n-init
+loop-n-init c = λ f t k. walk_none 32 _ _ (let z : c.args.low - c.args.low ≡ 0 = omega arith in z)
 
-pub loop-fits-init : goal.loop-fits-init
-loop-fits-init c = λ f t k. walk_none 32 _
+pub loop-n-preserved : goal.loop-n-preserved
+loop-n-preserved c = λ f t k. walk_more 32 _ _ c.loop-n.n _ _ _ c.requires c.loop-n.auto.n c.loop-n-test.true c.place-numberat.ensures.0 c.place-at.ensures.0 c.used_fits.ensures (c.loop-n.invariant f t k) c.if-not-fits.false
 
-pub overflow_add-low : goal.overflow_add-low
-overflow_add-low c = let r = c.requires in let l = walk_within c.loop-fits.fits c.loop-fits.i (c.args.next - c.args.low) c.loop-fits-test.true in omega (arith, r.forth, r.next_fits)
-
-pub overflow_add-i : goal.overflow_add-i
-overflow_add-i c = let r = c.requires in let l = walk_within c.loop-fits.fits c.loop-fits.i (c.args.next - c.args.low) c.loop-fits-test.true in omega (arith, r.next_fits)
-
-pub loop-fits-smaller : goal.loop-fits-smaller
-loop-fits-smaller c = let l = walk_within c.loop-fits.fits c.loop-fits.i (c.args.next - c.args.low) c.loop-fits-test.true in omega arith
-
-pub loop-fits-preserved : goal.loop-fits-preserved
-loop-fits-preserved c = λ f t k. walk_more 32 _ _ _ _ _ _ _ c.requires c.loop-fits-test.true c.data_place-numberat.ensures.0 c.channel_place-at.ensures.0 c.used_fits.ensures (c.loop-fits.invariant f t k)
+pub returns-then-not-fits : goal.returns-then-not-fits
+returns-then-not-fits c = λ f t k. walk_stops 32 _ _ c.loop-n.n _ _ _ c.requires c.loop-n.auto.n c.loop-n-test.true c.place-numberat.ensures.0 c.place-at.ensures.0 c.used_fits.ensures (c.loop-n.invariant f t k) _ c.if-not-fits.true
 
 pub returns : goal.returns
-returns c = λ f t k. walk_end 32 _ _ _ _ (c.loop-fits.invariant f t k) c.loop-fits-test.false (search rules) (search rules)
+returns c = λ f t k. walk_end 32 _ _ c.loop-n.n c.loop-n-test.false (c.loop-n.invariant f t k) (search rules) (search rules)

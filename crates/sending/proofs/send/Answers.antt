@@ -47,16 +47,16 @@ overflow_add-channel c =
 pub sent-q-requires : goal.sent-q-requires
 sent-q-requires c = (sound_bounds 32 _ _ (omega arith) (sym (size_right 32 _ _ _ c.if-store-ne-STORE.false c.consistent.ensures) ∙ c.if-not-consistent.false)).0.full
 
-pub returns-in-Refused : goal.returns-in-Refused
+pub returns-in-Err : goal.returns-in-Err
 unfolding new_datagram
-returns-in-Refused c =
-    let l = new_roomless 32 (state c.args.s c.args.store.now) c.args.tick c.args.block.now c.args.out.now _ _ _ (record { sound = sym (size_right 32 _ _ _ c.if-store-ne-STORE.false c.consistent.ensures) ∙ c.if-not-consistent.false; short = c.if-block-gt-LONGEST_BLOCK.false; fresh = sym c.used_up.ensures ∙ c.if-used_up.false; free = sym c.full.ensures ∙ c.if-full.false }) c.in-Refused.is
+returns-in-Err c =
+    let l = new_roomless 32 (state c.args.s c.args.store.now) c.args.tick c.args.block.now c.args.out.now _ _ _ (record { sound = sym (size_right 32 _ _ _ c.if-store-ne-STORE.false c.consistent.ensures) ∙ c.if-not-consistent.false; short = c.if-block-gt-LONGEST_BLOCK.false; fresh = sym c.used_up.ensures ∙ c.if-used_up.false; free = sym c.full.ensures ∙ c.if-full.false }) c.in-Err.is
     c.put_data.ensures.answer c.put_data.ensures.bytes in
     record { answer = l.written; «record» = l.sender; kept = l.kept; bytes = l.bytes }
 
-pub returns-in-Wrote : goal.returns-in-Wrote
+pub returns-in-Ok : goal.returns-in-Ok
 unfolding new_datagram
-returns-in-Wrote c =
-    let l = new_sent 32 (state c.args.s c.args.store.now) c.args.tick c.args.block.now c.args.out.now _ _ _ _ _ _ (record { sound = sym (size_right 32 _ _ _ c.if-store-ne-STORE.false c.consistent.ensures) ∙ c.if-not-consistent.false; short = c.if-block-gt-LONGEST_BLOCK.false; fresh = sym c.used_up.ensures ∙ c.if-used_up.false; free = sym c.full.ensures ∙ c.if-full.false }) c.in-Wrote.is c.put_data.ensures.answer c.put_data.ensures.bytes
-    c.channel_place-at.ensures.0 c.put.ensures c.sent-q.ensures in
+returns-in-Ok c =
+    let l = new_sent 32 (state c.args.s c.args.store.now) c.args.tick c.args.block.now c.args.out.now _ _ _ _ _ _ (record { sound = sym (size_right 32 _ _ _ c.if-store-ne-STORE.false c.consistent.ensures) ∙ c.if-not-consistent.false; short = c.if-block-gt-LONGEST_BLOCK.false; fresh = sym c.used_up.ensures ∙ c.if-used_up.false; free = sym c.full.ensures ∙ c.if-full.false }) c.in-Ok.is c.put_data.ensures.answer c.put_data.ensures.bytes
+    c.place-at.ensures.0 c.put.ensures c.sent-q.ensures in
     record { answer = l.written; «record» = l.sender; kept = l.kept; bytes = l.bytes }

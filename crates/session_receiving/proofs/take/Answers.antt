@@ -3,8 +3,8 @@ use Rattle.session.proofs.Making.{refused_filled, refused_left}
 use Rattle.session_receiving.proofs.Own.{taken}
 use Rattle.session_receiving.proofs.take.Goals as goal
 
-pub returns-then-answer-ne0 : goal.returns-then-answer-ne0
-returns-then-answer-ne0 c = (refused_filled _ _ _ _ _ _ _ c.place_answer-answer.ensures c.if-answer-ne0.true, refused_left _ _ _ _ _ _ _ c.place_answer-answer.ensures c.if-answer-ne0.true _)
+pub returns-in-Err : goal.returns-in-Err
+returns-in-Err c = (refused_filled _ _ _ _ _ _ c.in-Err.ensures, refused_left _ _ _ _ _ _ c.in-Err.ensures _)
 
 pub returns : goal.returns
-returns c = taken _ _ _ _ _ c.place_answer-answer.ensures c.if-answer-ne0.false _ _ _ c.take-y.ensures.answer c.take-y.ensures.«record» c.take-y.ensures.bytes
+returns c = taken _ _ _ _ c.in_default.ensures _ _ _ c.take-taken.ensures.answer c.take-taken.ensures.«record» c.take-taken.ensures.bytes

@@ -4,7 +4,7 @@ use Rattle.listing.specs.Laws.{written_fits}
 use Rattle.show.proofs.main.Goals as goal
 
 pub slice_bounds-text-end : goal.slice_bounds-text-end
-slice_bounds-text-end c = let h : c.in-Wrote.k ≤ 512 = written_fits _ _ _ c.in-Wrote.ensures.answer in omega arith
+slice_bounds-text-end c = let h : c.in-Ok.k ≤ 512 = written_fits _ _ _ c.in-Ok.ensures.answer in omega arith
 
 pub slice_bounds-write_all-end : goal.slice_bounds-write_all-end
-slice_bounds-write_all-end c = let h : c.in-Wrote.k ≤ 512 = written_fits _ _ _ c.in-Wrote.ensures.answer in sym (length-take-le _ _ (omega arith))
+slice_bounds-write_all-end c = let h : c.in-Ok.k ≤ 512 = written_fits _ _ _ c.in-Ok.ensures.answer in sym (length-take-le _ _ (omega arith))

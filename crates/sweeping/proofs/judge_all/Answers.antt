@@ -1,4 +1,6 @@
 -- `sweeping::judge_all` meets its contract: each way out is an instance of a law.
+use Prim.Native.Nat.{◌+◌, ◌-◌}
+use mathlib.Core.Path.{◌≡◌}
 use native.Mathlib.Omega.{arith}
 use Rattle.sweeping.proofs.Losing.{passed_none, passed_next, passed_all}
 use Rattle.sweeping.proofs.judge_all.Goals as goal
@@ -14,12 +16,12 @@ counted-higher-requires c = omega (arith, c.loop-i.invariant.higher_fits)
 
 pub loop-i-preserved : goal.loop-i-preserved
 loop-i-preserved c =
-    rw c.data_place-at.ensures.0 (passed_next 32 _ _ _ _ _ c.loop-i.i _ _ _ _ (omega arith)
+    rw c.place-at.ensures.0 (passed_next 32 _ _ _ _ _ c.loop-i.i _ _ _ _ (let h : c.loop-i.i ≡ c.loop-i.i - 1 + 1 = omega arith in h)
     c.loop-i.invariant
     (record {
-      judged = rw c.data_place-at.ensures.0 at c.loses-lost.ensures;
-      counts = rw c.data_place-at.ensures.0 at c.counted-count.ensures;
-      receives = rw c.data_place-at.ensures.0 at c.counted-higher.ensures;
+      judged = rw c.place-at.ensures.0 at c.loses-lost.ensures;
+      counts = rw c.place-at.ensures.0 at c.counted-count.ensures;
+      receives = rw c.place-at.ensures.0 at c.counted-higher.ensures;
     }))
 
 pub returns : goal.returns

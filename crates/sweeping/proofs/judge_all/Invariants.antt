@@ -4,6 +4,3 @@ use Rattle.sweeping.proofs.judge_all.Given as goal
 
 abbrev pub invariant-loop-i : goal.invariant-loop-i
 invariant-loop-i l = Passed 32 l.s l.tick l.flags l.count l.higher l.i
-
-abbrev pub decreases-loop-i : goal.decreases-loop-i
-decreases-loop-i l = l.i

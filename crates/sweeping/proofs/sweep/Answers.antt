@@ -6,7 +6,7 @@ use Rattle.sweeping.proofs.Losing.{swept_unfit, swept_fit}
 use Rattle.sweeping.proofs.sweep.Goals as goal
 
 pub returns-then-not-consistent : goal.returns-then-not-consistent
-returns-then-not-consistent c = let both = swept_unfit 32 _ _ (sym c.consistent.ensures ∙ c.if-not-consistent.true) in record { answer = both.0; lost = both.1.0; «record» = both.1.1 }
+returns-then-not-consistent c = let both = swept_unfit 32 _ _ (sym c.consistent.ensures ∙ c.if-not-consistent.true) in record { lost = both.0; «record» = both.1 }
 
 pub judge_all-l-requires : goal.judge_all-l-requires
 judge_all-l-requires c =
@@ -18,4 +18,4 @@ turn-q-requires c = turnable 32 32 _ (omega arith) (omega arith) (sym c.consiste
 pub returns : goal.returns
 returns c =
     let both = swept_fit 32 _ _ _ _ _ (sym c.consistent.ensures ∙ c.if-not-consistent.false)
-    c.judge_all-l.ensures.0 c.judge_all-l.ensures.1 c.turn-q.ensures in record { answer = both.0; lost = both.1.0; «record» = both.1.1 }
+    c.judge_all-l.ensures.0 c.judge_all-l.ensures.1 c.turn-q.ensures in record { lost = both.0; «record» = both.1 }

@@ -3,4 +3,4 @@ use Rattle.taking.proofs.Taking.{freed_is}
 use Rattle.taking.proofs.freed.Goals as goal
 
 pub returns : goal.returns
-returns c = freed_is 32 c.args.r _ c.channel_place-at.ensures.0
+returns c = freed_is 32 c.args.r _ c.place-at.ensures.0

@@ -18,7 +18,7 @@ returns-then-h-ne1 c =
     c.args.store.now
     c.args.out.now _
     (sound_with_lem 32 _ _ _ _ c.consistent.ensures c.sound.ensures)
-    c.if-not-sound.false _ c.channel_place-at.ensures.0 c.if-h-ne1.true in record { answer = both.0; «record» = both.1.0; bytes = both.1.1 }
+    c.if-not-sound.false _ c.place-at.ensures.0 c.if-h-ne1.true in record { answer = both.0; «record» = both.1.0; bytes = both.1.1 }
 
 pub returns-then-out-n : goal.returns-then-out-n
 returns-then-out-n c =
@@ -27,7 +27,7 @@ returns-then-out-n c =
     c.args.out.now _
     (sound_with_lem 32 _ _ _ _ c.consistent.ensures
     c.sound.ensures) c.if-not-sound.false _
-    c.channel_place-at.ensures.0 c.if-h-ne1.false _ refl c.if-out-n.true in record { answer = both.0; «record» = both.1.0; bytes = both.1.1 }
+    c.place-at.ensures.0 c.if-h-ne1.false _ refl c.if-out-n.true in record { answer = both.0; «record» = both.1.0; bytes = both.1.1 }
 
 pub slice_bounds-lay-end : goal.slice_bounds-lay-end
 slice_bounds-lay-end c =
@@ -35,8 +35,8 @@ slice_bounds-lay-end c =
     c.sound.ensures c.if-not-sound.false
     in
     let l = taken_short 32 32 c.args.r _ _ (omega arith) t.0
-    c.channel_place-at.ensures.0 c.if-h-ne1.false refl in
-    omega (arith, t.1, l, c.channel_place-at.ensures.1)
+    c.place-at.ensures.0 c.if-h-ne1.false refl in
+    omega (arith, t.1, l, c.place-at.ensures.1)
 
 pub freed-q-requires : goal.freed-q-requires
 freed-q-requires c =
@@ -53,6 +53,6 @@ returns c =
     (sound_with_lem 32 _ _ _ _ c.consistent.ensures
     c.sound.ensures)
     c.if-not-sound.false _
-    c.channel_place-at.ensures.0
+    c.place-at.ensures.0
     c.if-h-ne1.false _ refl _ _ _ c.if-out-n.false
     c.lay-k.ensures c.freed-q.ensures in record { answer = both.0; «record» = both.1.0; bytes = both.1.1 }

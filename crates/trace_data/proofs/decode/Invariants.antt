@@ -1,5 +1,5 @@
 -- `decode` meets its contract: at each turn of the loop, the bytes before place i are those that the text is.
-use Prim.Native.Nat.{◌-◌, ◌/◌, ◌≤◌}
+use Prim.Native.Nat.{◌/◌, ◌≤◌}
 use mathlib.Core.Path.{◌≡◌}
 use lib.ListN.{length}
 use lib.Seq.{paste}
@@ -8,6 +8,3 @@ use Rattle.trace_data.proofs.decode.Given as goal
 
 abbrev pub invariant-loop-i : goal.invariant-loop-i
 invariant-loop-i l = (l.i ≤ length l.text / 2) × (length l.out ≡ length l.initial.out) × (l.out ≡ paste l.initial.out 0 (hex_bytes l.text) l.i)
-
-abbrev pub decreases-loop-i : goal.decreases-loop-i
-decreases-loop-i l = l.n - l.i

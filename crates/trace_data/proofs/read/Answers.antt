@@ -9,7 +9,7 @@ use Rattle.trace_data.proofs.read.Goals as goal
 pub returns-then-not-well_written : goal.returns-then-not-well_written
 returns-then-not-well_written c =
     let e = data_bad _ _ _ (sym c.well_written.ensures ∙ c.if-not-well_written.true) in
-    record { answer = written_refused _ _ _ e (λ z. omega arith); bytes = left_refused _ _ _ _ e (λ z. omega arith) }
+    record { answer = written_refused _ _ _ e; bytes = left_refused _ _ _ _ e (λ z. omega arith) }
 
 pub overflow_sub-n : goal.overflow_sub-n
 overflow_sub-n c = data_long _ _ (sym c.well_written.ensures ∙ c.if-not-well_written.false)
@@ -17,7 +17,7 @@ overflow_sub-n c = data_long _ _ (sym c.well_written.ensures ∙ c.if-not-well_w
 pub returns-then-out-n : goal.returns-then-out-n
 returns-then-out-n c =
     let e = data_short _ _ _ (sym c.well_written.ensures ∙ c.if-not-well_written.false) c.if-out-n.true in
-    record { answer = written_refused _ _ _ e (λ z. omega arith); bytes = left_refused _ _ _ _ e (λ z. omega arith) }
+    record { answer = written_refused _ _ _ e; bytes = left_refused _ _ _ _ e (λ z. omega arith) }
 
 pub slice_bounds-decode-count : goal.slice_bounds-decode-count
 slice_bounds-decode-count c = data_long _ _ (sym c.well_written.ensures ∙ c.if-not-well_written.false)

@@ -1,32 +1,31 @@
--- `kind_word` meets its contract: each test of the definition goes one of the ways out.
+-- `kind_word` meets its contract: each kind has the word of the definition.
 use mathlib.Core.Path.{refl}
 use native.Mathlib.Omega.{arith}
-use borrow.Author.Tests.{eq-eqb, ne_eqb}
-use Rattle.common.specs.Choice.{when, unless}
 use Rattle.text.specs.Within.{within, within_as}
 use Rattle.trace.specs.Kinds.{kind_text}
 use Rattle.trace_lead.proofs.kind_word.Goals as goal
 
-pub returns-then-kind-eq-IN : goal.returns-then-kind-eq-IN
+pub returns-in-1 : goal.returns-in-1
 unfolding kind_text
-returns-then-kind-eq-IN c = within_as (when _ _ _ _ (eq-eqb _ _ c.if-kind-eq-IN.true) refl) (within 6 (omega arith) c.lay.ensures)
+returns-in-1 c = within_as (rw c.in-1.is refl) (within 6 (omega arith) c.lay.ensures)
 
-pub returns-then-kind-eq-SEND : goal.returns-then-kind-eq-SEND
+pub returns-in-2 : goal.returns-in-2
 unfolding kind_text
-returns-then-kind-eq-SEND c = within_as (unless _ _ _ _ (ne_eqb _ _ c.if-kind-eq-IN.false) (when _ _ _ _ (eq-eqb _ _ c.if-kind-eq-SEND.true) refl)) (within 6 (omega arith) c.lay-then-kind-eq-SEND.ensures)
+returns-in-2 c = within_as (rw c.in-2.is refl) (within 6 (omega arith) c.lay-in-2.ensures)
 
-pub returns-then-kind-eq-RESEND : goal.returns-then-kind-eq-RESEND
+pub returns-in-3 : goal.returns-in-3
 unfolding kind_text
-returns-then-kind-eq-RESEND c = within_as (unless _ _ _ _ (ne_eqb _ _ c.if-kind-eq-IN.false) (unless _ _ _ _ (ne_eqb _ _ c.if-kind-eq-SEND.false) (when _ _ _ _ (eq-eqb _ _ c.if-kind-eq-RESEND.true) refl))) (within 6 (omega arith) c.lay-then-kind-eq-RESEND.ensures)
+returns-in-3 c = within_as (rw c.in-3.is refl) (within 6 (omega arith) c.lay-in-3.ensures)
 
-pub returns-then-kind-eq-TAKE : goal.returns-then-kind-eq-TAKE
+pub returns-in-4 : goal.returns-in-4
 unfolding kind_text
-returns-then-kind-eq-TAKE c = within_as (unless _ _ _ _ (ne_eqb _ _ c.if-kind-eq-IN.false) (unless _ _ _ _ (ne_eqb _ _ c.if-kind-eq-SEND.false) (unless _ _ _ _ (ne_eqb _ _ c.if-kind-eq-RESEND.false) (when _ _ _ _ (eq-eqb _ _ c.if-kind-eq-TAKE.true) refl)))) (within 6 (omega arith) c.lay-then-kind-eq-TAKE.ensures)
+returns-in-4 c = within_as (rw c.in-4.is refl) (within 6 (omega arith) c.lay-in-4.ensures)
 
-pub returns-then-kind-eq-SWEEP : goal.returns-then-kind-eq-SWEEP
+pub returns-in-5 : goal.returns-in-5
 unfolding kind_text
-returns-then-kind-eq-SWEEP c = within_as (unless _ _ _ _ (ne_eqb _ _ c.if-kind-eq-IN.false) (unless _ _ _ _ (ne_eqb _ _ c.if-kind-eq-SEND.false) (unless _ _ _ _ (ne_eqb _ _ c.if-kind-eq-RESEND.false) (unless _ _ _ _ (ne_eqb _ _ c.if-kind-eq-TAKE.false) (when _ _ _ _ (eq-eqb _ _ c.if-kind-eq-SWEEP.true) refl))))) (within 6 (omega arith) c.lay-then-kind-eq-SWEEP.ensures)
+returns-in-5 c = within_as (rw c.in-5.is refl) (within 6 (omega arith) c.lay-in-5.ensures)
 
-pub returns : goal.returns
+pub returns-in_default : goal.returns-in_default
 unfolding kind_text
-returns c = within_as (unless _ _ _ _ (ne_eqb _ _ c.if-kind-eq-IN.false) (unless _ _ _ _ (ne_eqb _ _ c.if-kind-eq-SEND.false) (unless _ _ _ _ (ne_eqb _ _ c.if-kind-eq-RESEND.false) (unless _ _ _ _ (ne_eqb _ _ c.if-kind-eq-TAKE.false) (unless _ _ _ _ (ne_eqb _ _ c.if-kind-eq-SWEEP.false) refl))))) (within 6 (omega arith) c.lay-2.ensures)
+returns-in_default c =
+    within_as (grind arith) (within 6 (omega arith) c.lay-in_default.ensures)

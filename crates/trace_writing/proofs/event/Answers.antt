@@ -10,29 +10,23 @@ use Rattle.trace_writing.proofs.event.Goals as goal
 pub returns-then-not-writable : goal.returns-then-not-writable
 returns-then-not-writable c =
     let e = event_bad _ _ _ _ (sym c.writable.ensures ∙ c.if-not-writable.true) in
-    record { answer = written_refused _ _ _ e (λ z. omega arith); bytes = left_refused _ _ _ _ e (λ z. omega arith); bound = event_bound _ _ _ (omega arith) }
+    record { answer = written_refused _ _ _ e; bytes = left_refused _ _ _ _ e (λ z. omega arith); bound = event_bound _ _ _ (omega arith) }
 
 pub returns-then-out-n : goal.returns-then-out-n
 returns-then-out-n c =
     let a = c.args in
     let e = event_short a.tick a.kind a.bytes.now (length a.out.now) (sym c.writable.ensures ∙ c.if-not-writable.false) (omega (arith, text_end c.lines-n.ensures)) in
-    record { answer = written_refused _ _ _ e (λ z. omega arith); bytes = left_refused _ _ _ _ e (λ z. omega arith); bound = event_bound _ _ _ (omega arith) }
-
-pub returns-then-out-n-2 : goal.returns-then-out-n-2
-returns-then-out-n-2 c =
-    let a = c.args in
-    let e = event_short a.tick a.kind a.bytes.now (length a.out.now) (sym c.writable.ensures ∙ c.if-not-writable.false) (omega (arith, text_end c.lines-n.ensures)) in
-    record { answer = written_refused _ _ _ e (λ z. omega arith); bytes = left_refused _ _ _ _ e (λ z. omega arith); bound = event_bound _ _ _ (omega arith) }
+    record { answer = written_refused _ _ _ e; bytes = left_refused _ _ _ _ e (λ z. omega arith); bound = event_bound _ _ _ (omega arith) }
 
 pub slice_bounds-event_lines-end : goal.slice_bounds-event_lines-end
 slice_bounds-event_lines-end c = text_taken c.lines-n.ensures
 
-pub event_lines-k-requires : goal.event_lines-k-requires
-event_lines-k-requires c = omega (arith, text_taken c.lines-n.ensures)
+pub event_lines-requires : goal.event_lines-requires
+event_lines-requires c = omega (arith, text_taken c.lines-n.ensures)
 
 pub returns : goal.returns
 returns c =
     let a = c.args in
     let e = event_fits a.tick a.kind a.bytes.now (length a.out.now) (sym c.writable.ensures ∙ c.if-not-writable.false) (omega (arith, text_end c.lines-n.ensures)) in
-    let l = event_laid _ _ a.bytes.now c.lines-n.ensures c.event_lines-k.ensures in
+    let l = event_laid _ _ a.bytes.now c.lines-n.ensures c.event_lines.ensures in
     record { answer = written_wrote _ _ _ _ _ e l; bytes = left_wrote _ _ _ _ _ e l; bound = event_bound _ _ _ (omega arith) }

@@ -1,10 +1,9 @@
 -- What an accepted write tells of its values.
-use Rattle.std.specs.Prelude.{ℕ, ◌≤◌, ◌^◌, Bool, true, false, cond, List, ◌≡◌, refl, length, take, eqb, leb}
+use Rattle.std.specs.Prelude.{ℕ, ◌≤◌, ◌^◌, Bool, true, false, cond, List, ◌≡◌, refl, length, take, eqb, leb, Err, Ok}
 use Rattle.std.proofs.Common.{sym, ◌∙◌, ap, arith, take_at, leb-false, ltb-false, eqb-true}
 use Rattle.std.proofs.lemmas.Bool.{not-false}
-use Rattle.common.specs.declared.Written.TheVariants.{Refused, Wrote}
 use Rattle.common.specs.Put.{put_of, put_front}
-use Rattle.common.specs.Answer.{written_of, left_of}
+use Rattle.common.specs.Answer.{refusal_of, written_of, left_of}
 use Rattle.wire.specs.declared.Ack.{Ack}
 use Rattle.wire.specs.declared.Vector.{Vector}
 use Rattle.wire.specs.declared.Values.{Values}
@@ -46,11 +45,11 @@ module _ (v : Values) (additions vector body : List ℕ) (room : ℕ) (e : 0 ≡
   accepted_short = ltb-false 1232 _ passed.1.1.1.1.1.0
 
 -- An answer that reports bytes accepts, and the bytes that it reports are those that were to be written.
-pub wrote : (n : ℕ) (b out : List ℕ) (k : ℕ) → written_of n b ≡ Wrote k → (0 ≡ n) × (take k (left_of n b out) ≡ b)
+pub wrote : (n : ℕ) (b out : List ℕ) (k : ℕ) → written_of n b ≡ Ok k → (0 ≡ n) × (take k (left_of n b out) ≡ b)
 unfolding written_of left_of
 wrote n b out k e = go (eqb n 0) refl e
   where
-    go : (t : Bool) → eqb n 0 ≡ t → cond t (Wrote (length b)) (Refused n) ≡ Wrote k → (0 ≡ n) × (take k (cond t (put_of out 0 b) out) ≡ b)
+    go : (t : Bool) → eqb n 0 ≡ t → cond t (Ok (length b)) (Err (refusal_of n)) ≡ Ok k → (0 ≡ n) × (take k (cond t (put_of out 0 b) out) ≡ b)
     go true t w =
         let l : length b ≡ k = cc in
         (sym (eqb-true n 0 t), ap (take k) (put_front out b) ∙ take_at b _ k l)

@@ -1,24 +1,23 @@
 -- What a reading that is a packet tells of its datagram: every test failed, and the packet is the one that stands there.
-use Rattle.std.specs.Prelude.{ℕ, ◌≤◌, Bool, true, false, cond, List, ◌≡◌, refl, length, eqb, ltb}
+use Rattle.std.specs.Prelude.{ℕ, ◌≤◌, Bool, true, false, cond, List, ◌≡◌, refl, length, eqb, ltb, Err, Ok, Some, None}
 use Rattle.std.proofs.Common.{sym, arith, eqb-true, ltb-false}
+use Rattle.common.specs.Answer.{refusal_of}
 use Rattle.common.specs.Order.{first}
 use Rattle.wire.specs.declared.Packet.{Packet}
-use Rattle.wire.specs.declared.Reading.{Reading}
-use Rattle.wire.specs.declared.Reading.TheVariants.{Refused, Dummy, Read}
 use Rattle.wire.specs.Frame.{byte_at, swapped, type_in, end_of}
 use Rattle.wire.specs.Layout.{flags_of, channel_end, packet_of}
-use Rattle.wire.specs.Read.{frame_tests, packet_tests, refused, read_packet, read_of}
+use Rattle.wire.specs.Read.{frame_tests, packet_tests, refused, read_packet, read_of, Reading}
 use Rattle.wire.specs.Round.Tests.{all_pass, neither}
 use Rattle.wire.specs.Round.Respelled.{Inside}
 
-accepted_read : (n : ℕ) (r : Reading) (packet : Packet) → refused n r ≡ Read packet → (0 ≡ n) × (r ≡ Read packet)
+accepted_read : (n : ℕ) (r : Reading) (packet : Packet) → refused n r ≡ Ok (Some packet) → (0 ≡ n) × (r ≡ Ok (Some packet))
 accepted_read n r packet e = go (eqb n 0) refl e
   where
-    go : (t : Bool) → eqb n 0 ≡ t → cond t r (Refused n) ≡ Read packet → (0 ≡ n) × (r ≡ Read packet)
+    go : (t : Bool) → eqb n 0 ≡ t → cond t r (Err (refusal_of n)) ≡ Ok (Some packet) → (0 ≡ n) × (r ≡ Ok (Some packet))
     go true t w = (sym (eqb-true n 0 t), w)
     go false t w = absurd (let z : ◌≡◌ {A = ℕ} 0 1 = cc in omega arith)
 
-no_dummy : (t : Bool) (r : Reading) (packet : Packet) → cond t Dummy r ≡ Read packet → r ≡ Read packet
+no_dummy : (t : Bool) (r : Reading) (packet : Packet) → cond t (Ok None) r ≡ Ok (Some packet) → r ≡ Ok (Some packet)
 no_dummy true r packet e = absurd (let z : ◌≡◌ {A = ℕ} 0 1 = cc in omega arith)
 no_dummy false r packet e = e
 
@@ -31,7 +30,7 @@ pub record Found (d : List ℕ) : Type 0 where
   pub short : length d ≤ 1232
   pub inside : Inside (swapped d) (flags_of (swapped d)) (end_of (swapped d))
 
-pub read_found : (d : List ℕ) (packet : Packet) → read_of d ≡ Read packet → Found d × (found d ≡ packet)
+pub read_found : (d : List ℕ) (packet : Packet) → read_of d ≡ Ok (Some packet) → Found d × (found d ≡ packet)
 unfolding read_of read_packet end_of
 read_found d packet e =
     let p : List ℕ = swapped d in

@@ -1,15 +1,14 @@
 -- A datagram that was written passes every test of reading, and reads as the packet that was written.
-use Rattle.std.specs.Prelude.{ℕ, ◌+◌, ◌-◌, ◌≤◌, max, Bool, true, false, not, List, ◌∷◌, ◌++◌, ◌≡◌, refl, replicate, eqb, ltb}
+use Rattle.std.specs.Prelude.{ℕ, ◌+◌, ◌-◌, ◌≤◌, max, Bool, true, false, not, List, ◌∷◌, ◌++◌, ◌≡◌, refl, replicate, eqb, ltb, Ok, Some}
 use Rattle.std.proofs.Common.{◌∙◌, ap, length-append, le-ltb}
 use native.Mathlib.Omega.{arith}
 use Rattle.std.proofs.Math.ListN.{length}
 use Rattle.common.specs.Order.{first, first_none, first_skip}
 use Rattle.wire.specs.declared.Values.{Values}
-use Rattle.wire.specs.declared.Reading.TheVariants.{Read}
 use Rattle.wire.specs.Frame.{swapped, byte_at, reserved_in, type_in, prefix_for, padded}
 use Rattle.wire.specs.Flags.{ack_in, data_in, vector_in, outside, both, either}
 use Rattle.wire.specs.Layout.{flags_of, channel_end, part_of}
-use Rattle.wire.specs.Read.{frame_tests, packet_tests, read_packet, read_of}
+use Rattle.wire.specs.Read.{read_as, frame_tests, packet_tests, read_packet, read_of}
 use Rattle.wire.specs.Write.{given, packet_bytes, datagram_of}
 use Rattle.wire.specs.Same.{Says}
 use Rattle.wire.specs.Round.Tests.{neither_of}
@@ -68,11 +67,11 @@ module _ (v : Values) (additions vector body : List ℕ) (fits : Fits v addition
       ∙ first_skip _ _ _ six
       ∙ first_skip _ _ _ header
 
-  packet_reads : read_packet whole (1 + length packet) ≡ Read (packet_for v additions vector body)
+  packet_reads : read_packet whole (1 + length packet) ≡ Ok (Some (packet_for v additions vector body))
   unfolding read_packet
   packet_reads =
       rw (← packet_passes, flags_read v additions vector body zeros fits laid_out)
-      (ap Read (packet_read_lem v additions vector body zeros fits laid_out (1 + length packet) refl))
+      (ap read_as (packet_read_lem v additions vector body zeros fits laid_out (1 + length packet) refl))
 
   pub datagram_length : length (datagram_of v additions vector body) ≡ 1 + max 7 (length packet)
   unfolding datagram_of
@@ -93,7 +92,7 @@ module _ (v : Values) (additions vector body : List ℕ) (fits : Fits v addition
       first_none ∙ first_skip _ _ _ prefix ∙ first_skip _ _ _ lengths
 
   pub datagram_reads : length (datagram_of v additions vector body) ≤ 1232
-      → read_of (datagram_of v additions vector body) ≡ Read (packet_for v additions vector body)
+      → read_of (datagram_of v additions vector body) ≡ Ok (Some (packet_for v additions vector body))
   unfolding read_of
   datagram_reads short =
       let end = framed_end packet (omega (arith, packet_long v additions vector body)) in

@@ -1,15 +1,14 @@
 -- What was read of a list of bytes is accepted for writing, and the datagram that is written of it reads the same.
-use Rattle.std.specs.Prelude.{ℕ, ◌+◌, ◌%◌, ◌/◌, ◌^◌, ◌≤◌, Bool, true, false, cond, not, List, ◌++◌, ◌≡◌, refl, length, drop, leb}
+use Rattle.std.specs.Prelude.{ℕ, ◌+◌, ◌%◌, ◌/◌, ◌^◌, ◌≤◌, Bool, true, false, cond, not, List, ◌++◌, ◌≡◌, refl, length, drop, leb, Ok, Some}
 use Rattle.std.proofs.Math.Path.{sym}
 use Rattle.std.proofs.Common.{◌∙◌, ap, arith, length-append, length-drop, le-ltb, eq-eqb}
 use Rattle.std.proofs.lemmas.Bool.{lt-leb}
 use Rattle.common.specs.Order.{first_none, first_skip}
 use Rattle.wire.specs.declared.Values.{Values}
-use Rattle.wire.specs.declared.Reading.TheVariants.{Read}
 use Rattle.wire.specs.Frame.{byte_at, word_at, three_at, swapped, end_of}
 use Rattle.wire.specs.Flags.{ack_in, vector_in, both}
 use Rattle.wire.specs.Layout.{flags_of, sized, ack_at, timed_at, vector_at, number_end, no_ack, no_vector, values_of, part_of}
-use Rattle.wire.specs.Read.{read_of}
+use Rattle.wire.specs.Read.{read_as, read_of}
 use Rattle.wire.specs.Write.{ack_wide, vector_wide, packet_bytes, datagram_of, write_answer}
 use Rattle.wire.specs.Same.{additions_in, coded_in, body_in, Bytes}
 use Rattle.wire.specs.Round.Tests.{neither_of}
@@ -104,8 +103,8 @@ module _ (d : List ℕ) (bytes : Bytes d) (facts : Found d) where
   unfolding values_of
   found_same = packet_read_lem v additions vector body (drop (end_of p) p) fitting laid (end_of p) packet_end
 
-  pub reads_again : read_of written ≡ Read (found d)
-  reads_again = datagram_reads v additions vector body fitting (omega (arith, not_longer, facts.short)) ∙ ap Read (sym found_same)
+  pub reads_again : read_of written ≡ Ok (Some (found d))
+  reads_again = datagram_reads v additions vector body fitting (omega (arith, not_longer, facts.short)) ∙ ap read_as (sym found_same)
 
   pub bytes_again : (additions_in written (found d) ≡ additions_in d (found d))
       × (coded_in written (found d) ≡ coded_in d (found d)) × (body_in written (found d) ≡ body_in d (found d))

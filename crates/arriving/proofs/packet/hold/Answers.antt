@@ -17,4 +17,4 @@ returns c =
     c.args.c.0
     c.args.h c.if-c-due.false
     c.if-h-eq1.false in
-    record { place = rw k refl; bytes = rw (k, ← c.channel_place-at.ensures.0) c.copy_part.ensures }
+    record { place = rw k refl; bytes = rw (k, ← c.place-at.ensures.0) c.copy_part.ensures }

@@ -4,7 +4,7 @@ use Rattle.replay_runs.proofs.Recorded.{recorded_fits}
 use Rattle.replay_runs.proofs.recording.event.Goals as goal
 
 pub overflow_add-result : goal.overflow_add-result
-overflow_add-result c = omega (arith, recorded_fits _ _ _ c.args.out.now c.args.at c.requires c.in-Wrote.ensures.answer)
+overflow_add-result c = omega (arith, recorded_fits _ _ _ c.args.out.now c.args.at c.requires c.event.ensures.answer c.unwrap_or.ensures)
 
-pub returns-in-Wrote : goal.returns-in-Wrote
-returns-in-Wrote c = recorded_fits _ _ _ c.args.out.now c.args.at c.requires c.in-Wrote.ensures.answer
+pub returns : goal.returns
+returns c = recorded_fits _ _ _ c.args.out.now c.args.at c.requires c.event.ensures.answer c.unwrap_or.ensures

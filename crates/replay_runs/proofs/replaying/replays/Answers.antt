@@ -4,7 +4,7 @@ use Rattle.text.specs.Within.{wrote_fits}
 use Rattle.replay_runs.proofs.replaying.replays.Goals as goal
 
 pub slice_bounds-text-end : goal.slice_bounds-text-end
-slice_bounds-text-end g c = let h : c.in-Wrote.k ≤ 131072 = wrote_fits _ _ _ c.in-Wrote.ensures.answer in omega arith
+slice_bounds-text-end g c = let h : c.in-Ok.k ≤ 131072 = wrote_fits _ _ _ c.in-Ok.ensures.answer in omega arith
 
 pub slice_bounds-output-end : goal.slice_bounds-output-end
-slice_bounds-output-end g c = let h : c.in-Wrote.k ≤ 131072 = wrote_fits _ _ _ c.in-Wrote.ensures.answer in sym (length-take-le _ _ (omega arith))
+slice_bounds-output-end g c = let h : c.in-Ok.k ≤ 131072 = wrote_fits _ _ _ c.in-Ok.ensures.answer in sym (length-take-le _ _ (omega arith))

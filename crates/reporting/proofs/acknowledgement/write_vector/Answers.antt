@@ -10,7 +10,7 @@ use borrow.Author.Rules.{rules}
 use Rattle.reporting.proofs.acknowledgement.write_vector.Goals as goal
 
 pub loop-i-init : goal.loop-i-init
-loop-i-init c = (search rules, search rules, states_none 32 c.args.r _)
+loop-i-init c = (search rules, states_none 32 c.args.r _)
 
 pub bounds-states-i : goal.bounds-states-i
 bounds-states-i c = omega (arith, (consistent_facts 32 32 c.args.r c.requires.r_value).end_near)
@@ -18,41 +18,40 @@ bounds-states-i c = omega (arith, (consistent_facts 32 32 c.args.r c.requires.r_
 pub loop-i-preserved : goal.loop-i-preserved
 loop-i-preserved c = (
   search rules,
-  search rules,
   states_step 32 c.args.r _ _ _ _
       (omega (arith, (consistent_facts 32 32 c.args.r c.requires.r_value).end_near))
-      c.loop-i.invariant.2 c.data_place-at.ensures.0,
+      c.loop-i.invariant.1 c.place-at.ensures.0,
 )
 
 pub slice_bounds-states-end : goal.slice_bounds-states-end
-slice_bounds-states-end c = omega (arith, (consistent_facts 32 32 c.args.r c.requires.r_value).end_near, c.loop-i.invariant.1)
+slice_bounds-states-end c = omega (arith, (consistent_facts 32 32 c.args.r c.requires.r_value).end_near, c.loop-i.invariant.0)
 
 pub slice_bounds-write-end : goal.slice_bounds-write-end
 slice_bounds-write-end c =
     sym
-    (ap length (states_done 32 c.args.r _ _ _ _ (omega arith) c.loop-i.invariant.2) ∙ states_length 32
+    (ap length (states_done 32 c.args.r _ _ _ _ (omega arith) c.loop-i.invariant.1) ∙ states_length 32
     c.args.r _ _)
 
-pub returns-in_default : goal.returns-in_default
-returns-in_default c =
+pub returns-in_err-k : goal.returns-in_err-k
+returns-in_err-k c =
     vector_never 32 c.args.r
     c.requires.r_value _
     (states_done 32 c.args.r _ _ _ _ (omega arith)
-    c.loop-i.invariant.2) _ (replicate 32 0) _ (omega arith) c.write.ensures.answer
-    c.write.ensures.bytes _ c.in_default.is
+    c.loop-i.invariant.1) _ (replicate 32 0) _ (omega arith) c.write.ensures.answer
+    c.write.ensures.bytes _ c.in_err-k.was
 
 pub overflow_cast-values : goal.overflow_cast-values
 overflow_cast-values c =
     omega (
       arith,
-      (vector_coded 32 c.args.r c.requires.r_value _ (states_done 32 c.args.r _ _ _ _ (omega arith) c.loop-i.invariant.2) c.write.result (replicate 32 0) _ (omega arith)
-          c.write.ensures.answer c.write.ensures.bytes c.in-Wrote.k c.in-Wrote.is).fits,
+      (vector_coded 32 c.args.r c.requires.r_value _ (states_done 32 c.args.r _ _ _ _ (omega arith) c.loop-i.invariant.1) c.write.result (replicate 32 0) _ (omega arith)
+          c.write.ensures.answer c.write.ensures.bytes _ c.in_ok-k.was).fits,
     )
 
 pub slice_bounds-write-end-4 : goal.slice_bounds-write-end-4
 slice_bounds-write-end-4 c =
-    let v = vector_coded 32 c.args.r c.requires.r_value _ (states_done 32 c.args.r _ _ _ _ (omega arith) c.loop-i.invariant.2) _ (replicate 32 0) _ (omega arith)
-    c.write.ensures.answer c.write.ensures.bytes _ c.in-Wrote.is in
+    let v = vector_coded 32 c.args.r c.requires.r_value _ (states_done 32 c.args.r _ _ _ _ (omega arith) c.loop-i.invariant.1) _ (replicate 32 0) _ (omega arith)
+    c.write.ensures.answer c.write.ensures.bytes _ c.in_ok-k.was in
     v.size ∙ ap length (sym v.same)
 
 pub slice_bounds-coded-end : goal.slice_bounds-coded-end
@@ -60,17 +59,17 @@ slice_bounds-coded-end c =
     (vector_coded 32 c.args.r
     c.requires.r_value _
     (states_done 32 c.args.r _ _ _ _ (omega arith)
-    c.loop-i.invariant.2) _ (replicate 32 0) _ (omega arith)
-    c.write.ensures.answer c.write.ensures.bytes _ c.in-Wrote.is).within
+    c.loop-i.invariant.1) _ (replicate 32 0) _ (omega arith)
+    c.write.ensures.answer c.write.ensures.bytes _ c.in_ok-k.was).within
 
 pub returns : goal.returns
 returns c =
     let v = vector_coded 32 c.args.r
     c.requires.r_value _
     (states_done 32 c.args.r _ _
-    _ _ (omega arith) c.loop-i.invariant.2) _
+    _ _ (omega arith) c.loop-i.invariant.1) _
     (replicate 32 0) _ (omega arith) c.write.ensures.answer
     c.write.ensures.bytes _
-    c.in-Wrote.is in
-    let both = vector_written 32 c.args.r _ _
-    c.args.out.now _ _ v (omega (arith, v.fits)) c.write-2.ensures.answer c.write-2.ensures.bytes in record { answer = both.0; bytes = both.1 }
+    c.in_ok-k.was in
+    let both = vector_written 32 c.args.r _ _ _
+    c.args.out.now _ _ v (omega (arith, v.fits)) c.write-2.ensures.answer c.write-2.ensures.bytes (search rules) in record { answer = both.0; bytes = both.1 }

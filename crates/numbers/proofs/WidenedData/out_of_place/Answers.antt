@@ -1,8 +1,0 @@
--- `numbers::WidenedData::out_of_place` meets its contract: what its calls ensure, put together at each way out.
-use Rattle.numbers.specs.declared.WidenedData.{WidenedData}
-use Rattle.numbers.specs.Widen.{out_of, from_data}
-use Rattle.std.proofs.Common.{sym, ap}
-use Rattle.numbers.proofs.WidenedData.out_of_place.Goals as goal
-
-pub returns-in-At : goal.returns-in-At
-returns-in-At c = ap (λ (w : WidenedData). out_of c.args.first.0 (from_data w)) (sym c.in-At.is)

@@ -1,9 +1,0 @@
--- `wire::bits::high_bit` meets its contract: what its calls ensure, put together at each way out.
-use mathlib.Core.Path.{ap}
-use Prim.Native.Nat.{ℕ, ◌/◌}
-use lib.Dec.{eqb}
-use lib.Bits.{and_mask}
-use Rattle.wire.proofs.bits.high_bit.Goals as goal
-
-pub returns : goal.returns
-returns c = ap (λ (n : ℕ). eqb n 1) (and_mask (c.args.b / 128) 1)

@@ -1,6 +1,0 @@
--- `wire::bits::low_four` meets its contract: what its calls ensure, put together at each way out.
-use lib.Bits.{and_mask}
-use Rattle.wire.proofs.bits.low_four.Goals as goal
-
-pub returns : goal.returns
-returns c = and_mask c.args.b 4
