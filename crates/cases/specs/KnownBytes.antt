@@ -1,4 +1,5 @@
 -- Datagrams whose bytes the documents give, and each flag's bit in one small datagram, as one statement over one list of cases.
+use Rattle.common.specs.Answer.{refusal_of}
 use Rattle.common.specs.declared.Refusal.TheVariants.{LeftOver, OtherFlag}
 use Rattle.std.specs.Prelude.{ℕ, false, List, [], ◌∷◌, refl, Err, Ok, None, Some}
 use Rattle.common.specs.Order.{first}
@@ -90,6 +91,6 @@ known =
     ∷ []
 
 pub known_right : AllRight known
-unfolding known numbers named_from named_by states_for first says_of bits_of states_in states_of names alike run_of map_of byte_of covers_of bytes_by vector_of swapped dropped_by end_of prefix_for padded framed six_of outside ack_end overhead_end delay_end aoa_end number_end vector_end channel_end values_of packet_of read_packet read_of packet_bytes datagram_of write_answer
+unfolding known refusal_of numbers named_from named_by states_for first says_of bits_of states_in states_of names alike run_of map_of byte_of covers_of bytes_by vector_of swapped dropped_by end_of prefix_for padded framed six_of outside ack_end overhead_end delay_end aoa_end number_end vector_end channel_end values_of packet_of read_packet read_of packet_bytes datagram_of write_answer
 known_right =
     (refl, ((refl, refl), (refl, (refl, ((refl, refl), (refl, (refl, (refl, (refl, (refl, (refl, (refl, (refl, (refl, ((refl, refl), ((refl, refl), ((refl, refl), ((refl, refl), ((refl, refl), ((refl, refl), tt))))))))))))))))))))

@@ -1,0 +1,2 @@
+-- What each call answers has the papers' number, accepted or refused.
+pub mod Numbered
