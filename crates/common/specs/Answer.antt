@@ -1,6 +1,6 @@
 -- What the answer of a call stands for: the papers' number, and the lent buffer as the call leaves it.
 use Rattle.std.specs.Prelude.{ℕ, Bool, true, false, cond, List, [], ◌∷◌, ◌≡◌, refl, length, eqb, ltb, Result, Ok, Err}
-use Rattle.std.proofs.Common.{sym, ap, arith, ne_eqb, eqb-true, eq-eqb}
+use Rattle.std.proofs.Common.{sym, arith, ne_eqb, eqb-true, eq-eqb}
 use Rattle.common.specs.declared.Refusal.{Refusal}
 use Rattle.common.specs.declared.Refusal.TheVariants.{Length, Prefix, PastTheEnd, OtherFlag, TwoAcknowledgements, LeftOver, OutOfPlace, NeverSent, Full, TooWide, Nothing, UsedUp, Unsound, Room, Opening, Trace, Spent, NoPlace, NoSession, NoFree}
 use Rattle.common.specs.Facts.{clash}

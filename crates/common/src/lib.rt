@@ -70,13 +70,14 @@ pub fn number<T: Drop>(answer: Result<T, Refusal>) -> u8
     }
 }
 
-// Copies src over dst from place at on.
-#[tactic(auto, unfolding(crate::specs::Put::put_of))]
+// Copies src over dst from place at on. A loop stays: `copy_from_slice` calls `memmove`, and the archive for C is to need `memcpy` and `memset` alone.
 pub fn put(dst: &mut [u8], at: usize, src: &[u8])
     requires { at + length src.now ≤ length dst.old }
     ensures { dst.new ≡ put_of dst.old at src.now }
 {
-    dst[at..at + src.len()].copy_from_slice(src);
+    for i in 0..src.len() {
+        dst[at + i] = src[i];
+    }
 }
 
 // Lays src over dst from place at on; the result is the next free place.

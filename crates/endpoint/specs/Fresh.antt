@@ -4,7 +4,7 @@ use Rattle.endpoint.specs.Open.{Opens, open_answer, fresh_pair, opened_of}
 use Rattle.endpoint.specs.Receive.{halves}
 use Rattle.endpoint.specs.Calls.{Endpoint}
 
--- an endpoint of what a call of `open` answers
+-- an endpoint of what opening gives: the records that a call of `open` answers, as `told_of` keeps them
 abbrev pub endpoint_of : Opens → List ℕ → List ℕ → Endpoint
 endpoint_of o store sent = record { halves = halves o.sender o.receiver store; sent = sent }
 

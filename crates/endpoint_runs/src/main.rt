@@ -76,7 +76,7 @@ fn receives(rt: &impl Print, p: Pair, store: &mut [u8], d: &[u8]) -> io::Result<
 fn arrives(rt: &impl Print, p: Pair, store: &mut [u8], line: &[u8]) -> io::Result<Pair> {
     let mut d = [0u8; 1232];
     let n = script_packets::make(line, &mut d);
-    let part = script::lent(line, b"store=", window::STORE, store);
+    let part = script::front(line, b"store=", window::STORE, store);
     receives(rt, p, part, &d[..n])
 }
 
@@ -84,7 +84,7 @@ fn arrives(rt: &impl Print, p: Pair, store: &mut [u8], line: &[u8]) -> io::Resul
 fn bytes(rt: &impl Print, p: Pair, store: &mut [u8], line: &[u8]) -> io::Result<Pair> {
     let mut d = [0u8; 1233];
     let n = script::bytes(line, b"bytes=", &mut d);
-    let part = script::lent(line, b"store=", window::STORE, store);
+    let part = script::front(line, b"store=", window::STORE, store);
     receives(rt, p, part, &d[..n])
 }
 

@@ -1,9 +1,13 @@
 -- Judging and then applying is what the definitions of Receive say: the answer's number, and the state that is left.
-use Rattle.std.specs.Prelude.{ℕ, Bool, true, false, cond, List, [], ◌≡◌, refl, eqb, Ok, Err}
+use Rattle.std.specs.Prelude.{ℕ, Bool, true, false, cond, List, [], ◌∷◌, ◌≡◌, refl, eqb, ltb, Ok, Err}
 use Rattle.std.proofs.Math.Option.{Option, none, some}
 use Rattle.std.proofs.Common.{sym, ◌∙◌, ap, eqb-true, eq-eqb}
 use Rattle.common.specs.Facts.{clash}
-use Rattle.common.specs.Answer.{number_of, refusal_of, settled, is_answer, no_back}
+use Rattle.common.specs.declared.Refusal.{Refusal}
+use Rattle.common.specs.declared.Refusal.TheVariants.{OutOfPlace}
+use Rattle.common.specs.Answer.{number_of, refusal_of, settled, is_answer, no_back, refusal_back, settled_err}
+use Rattle.common.specs.Order.{Test, test, first}
+use Rattle.numbers.specs.Full.{highest}
 use Rattle.wire.specs.declared.Packet.{Packet as WirePacket}
 use Rattle.wire.specs.declared.Values.{Values}
 use Rattle.wire.specs.Flags.{data_in, aoa_in}
@@ -12,7 +16,7 @@ use Rattle.receiver.specs.declared.Receiver.{Receiver}
 use Rattle.judging.specs.declared.Arrived.{Arrived}
 use Rattle.judging.specs.declared.Arrived.TheVariants.{Waiver, Content}
 use Rattle.receiver.specs.Record.{State}
-use Rattle.receiver.specs.Packet.{Packet, Arrival, nothing, waiver, content, waived, packet_answer, arrival_answer, receiver_after, waiver_after, store_after, packet_of, arrival_of}
+use Rattle.receiver.specs.Packet.{Packet, Arrival, nothing, waiver, content, waived, number_tests, numbers_answer, packet_answer, arrival_answer, receiver_after, waiver_after, store_after, packet_of, arrival_of}
 use Rattle.receiver.specs.Receive.{on_some, data_number, channel_number, aoa_number, packet_from, waiver_from, arrival_from, answer_for, state_for, values_answer, values_of}
 use Rattle.receiver.specs.Known.{values_known}
 use Rattle.judging.specs.Judge.{numbers_in, judged_for, judged_of, left_by}
@@ -60,6 +64,37 @@ judged_answer w r d p =
     ∙ same_judged w r _ _ _ _ _ _ (body_in d p)
     ∙ ap (judged_for w r) (sym (arrives_is r p.values (body_in d p))))
     ∙ judged_number w r (arrival_from r p.values (body_in d p)) (values_known w r d p)
+
+-- every refusal is 7
+abbrev Sevens : List Test → Type 0
+Sevens [] = ◌≡◌ {A = ℕ} 0 0
+Sevens (t ∷ ts) = (t.no ≡ 7) × Sevens ts
+
+sevens : (ts : List Test) → Sevens ts → (first ts ≡ 0 → ⊥) → first ts ≡ 7
+unfolding first
+sevens [] h z = absurd (z refl)
+sevens (t ∷ ts) h z = go t.holds t.no h.0 (sevens ts h.1) z
+  where
+    go : (b : Bool) (n : ℕ) → n ≡ 7 → ((first ts ≡ 0 → ⊥) → first ts ≡ 7) → (cond b n (first ts) ≡ 0 → ⊥) → cond b n (first ts) ≡ 7
+    go true n e q z = e
+    go false n e q z = q z
+
+arrival_seven : (w : ℕ) (r : Receiver) (a : Arrival) → (arrival_answer w r a ≡ 0 → ⊥) → arrival_answer w r a ≡ 7
+unfolding arrival_answer numbers_answer
+arrival_seven w r nothing z = absurd (z refl)
+arrival_seven w r (waiver v) z = sevens (test (ltb highest v) 7 ∷ []) (refl, refl) z
+arrival_seven w r (content p) z =
+    sevens (number_tests w r.base.0 r.due.0 (waived p.aoa) p.number p.channel) (refl, (refl, (refl, (refl, (refl, refl))))) z
+
+for_seven : (w : ℕ) (r : Receiver) (o : Option Arrival) (x : Refusal) → Err x ≡ judged_for w r o → x ≡ OutOfPlace
+for_seven w r none x e = let q : x ≡ OutOfPlace = cc in q
+for_seven w r (some a) x e =
+    let (z, q) = settled_err x (arrival_answer w r a) (numbers_in a) e in
+    q ∙ ap refusal_of (arrival_seven w r a z) ∙ refusal_back OutOfPlace
+
+pub judged_refusal : (w : ℕ) (r : Receiver) (v : Values) (x : Refusal) → Err x ≡ judged_of w r v → x ≡ OutOfPlace
+unfolding judged_of
+judged_refusal w r v x e = for_seven w r (arrival_from r v []) x e
 
 -- an accepted packet leaves what its numbers leave
 content_left : (w : ℕ) (s : State) (a : Option ℕ) (n c : ℕ) (block : List ℕ)

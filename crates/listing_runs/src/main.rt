@@ -43,7 +43,7 @@ fn run(rt: &impl Print, line: &[u8]) -> io::Result<()> {
     let n = script::bytes(line, b"bytes=", &mut d);
     script::name(rt, line)?;
     rt.write_all(b"\n")?;
-    lists(rt, &d[..n], script::lent(line, b"room=", 0, &mut out))
+    lists(rt, &d[..n], script::front(line, b"room=", 0, &mut out))
 }
 
 fn main(rt: HostRuntime) -> io::Result<()> {

@@ -24,7 +24,7 @@ module _ (r f top back : ℕ) (et : top ≡ r + 32767) (eb : back ≡ (top + 655
       let lt : r + 32767 < back_of r f = omega arith in
       rw (ne_eqb ((r + 32768) % 65536) f clear, lt-leb (back_of r f) (r + 32767) lt, et, b) refl
 
--- what a wrapping difference ensures fixes it
+-- the age, by what a wrapping difference is
 pub age_old : (p now sent : ℕ) → p ≡ since_of now sent → 2147483648 ≤ p → 0 ≡ age_of now sent
 unfolding age_of
 age_old p now sent e h = let g : 2147483648 ≤ since_of now sent = omega arith in rw (le-ltb (since_of now sent) 2147483648 g) refl

@@ -36,7 +36,7 @@ fn receives(rt: &impl Print, r: Receiver, store: &mut [u8], d: &[u8]) -> io::Res
 fn arrives(rt: &impl Print, r: Receiver, store: &mut [u8], line: &[u8]) -> io::Result<Receiver> {
     let mut d = [0u8; 1232];
     let n = script_packets::make(line, &mut d);
-    let part = script::lent(line, b"store=", window::STORE, store);
+    let part = script::front(line, b"store=", window::STORE, store);
     receives(rt, r, part, &d[..n])
 }
 
@@ -50,10 +50,10 @@ fn taken(rt: &impl Print, r: Receiver, store: &[u8], out: &mut [u8]) -> io::Resu
 }
 
 // A take into room for so many bytes, from the store or from a part of it.
-fn takes(rt: &impl Print, r: Receiver, store: &mut [u8], line: &[u8]) -> io::Result<Receiver> {
+fn takes(rt: &impl Print, r: Receiver, store: &[u8], line: &[u8]) -> io::Result<Receiver> {
     let mut out = [0u8; 1225];
-    let part = script::lent(line, b"store=", window::STORE, store);
-    taken(rt, r, part, script::lent(line, b"room=", 0, &mut out))
+    let part = &store[..script::lent(line, b"store=", window::STORE, store.len())];
+    taken(rt, r, part, script::front(line, b"room=", 0, &mut out))
 }
 
 // An acknowledgement into this buffer.
@@ -68,7 +68,7 @@ fn acknowledged(rt: &impl Print, r: Receiver, out: &mut [u8]) -> io::Result<Rece
 // An acknowledgement into room for so many bytes.
 fn acknowledges(rt: &impl Print, r: Receiver, line: &[u8]) -> io::Result<Receiver> {
     let mut out = [0u8; 64];
-    acknowledged(rt, r, script::lent(line, b"room=", 0, &mut out))
+    acknowledged(rt, r, script::front(line, b"room=", 0, &mut out))
 }
 
 // A fresh record.

@@ -73,7 +73,7 @@ pub(crate) fn events(rt: &impl Print, line: &[u8]) -> io::Result<()> {
     let mut bytes = [0u8; 64];
     let mut out = [0u8; 256];
     let n = script::bytes(line, b"bytes=", &mut bytes);
-    let part = script::lent(line, b"room=", 0, &mut out);
+    let part = script::front(line, b"room=", 0, &mut out);
     tells(rt, line, &bytes[..n], part)
 }
 
@@ -92,5 +92,5 @@ fn begins(rt: &impl Print, line: &[u8], out: &mut [u8]) -> io::Result<()> {
 // A head of a line of the script, into room for so many bytes.
 pub(crate) fn heads(rt: &impl Print, line: &[u8]) -> io::Result<()> {
     let mut out = [0u8; 256];
-    begins(rt, line, script::lent(line, b"room=", 0, &mut out))
+    begins(rt, line, script::front(line, b"room=", 0, &mut out))
 }

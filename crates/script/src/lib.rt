@@ -3,7 +3,7 @@
 // give is 0, or no bytes.
 #![tactic(auto)]
 
-ghost use Rattle.std.specs.Prelude.{◌≤◌, ◌<◌, length, IfSome};
+ghost use Rattle.std.specs.Prelude.{◌≡◌, ◌≤◌, ◌<◌, length, take, IfSome};
 ghost use Rattle.std.specs.Iterator.{at_most};
 
 use std::io;
@@ -125,15 +125,23 @@ pub fn long(line: &[u8], key: &[u8]) -> u32 {
     (number(line, key) % 4294967296) as u32
 }
 
-// The front of a buffer that a line lends under a key: as many bytes as it says, at most all; the usual number where it says nothing.
-pub fn lent<'a>(line: &[u8], key: &[u8], usual: usize, buffer: &'a mut [u8]) -> &'a mut [u8]
-    ensures { length result.now ≤ length buffer.old }
+// How many bytes a line lends under a key, at most so many; the usual number where it says nothing.
+pub fn lent(line: &[u8], key: &[u8], usual: usize, most: usize) -> usize
+    ensures { result ≤ most }
 {
-    let most = buffer.len();
-    let n = match number(line, key) {
+    match number(line, key) {
         0 => usual.min(most),
         n => n.min(most as u64) as usize,
-    };
+    }
+}
+
+// The front of a buffer, as much of it as a line lends under a key.
+pub fn front<'a>(line: &[u8], key: &[u8], usual: usize, buffer: &'a mut [u8]) -> &'a mut [u8]
+    ensures within { length result.now ≤ length buffer.old }
+    ensures front { result.now ≡ take (length result.now) buffer.old }
+{
+    let most = buffer.len();
+    let n = lent(line, key, usual, most);
     &mut buffer[..n]
 }
 

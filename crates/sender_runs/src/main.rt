@@ -91,10 +91,10 @@ fn sends(rt: &impl Print, s: Sender, store: &mut [u8], line: &[u8]) -> io::Resul
     sent(
         rt,
         s,
-        script::lent(line, b"store=", window::STORE, store),
+        script::front(line, b"store=", window::STORE, store),
         script::long(line, b"tick="),
         &block[..n],
-        script::lent(line, b"room=", 0, &mut out),
+        script::front(line, b"room=", 0, &mut out),
     )
 }
 
@@ -119,7 +119,7 @@ fn many(rt: &impl Print, s: Sender, store: &mut [u8], line: &[u8]) -> io::Result
     added(
         rt,
         s,
-        script::lent(line, b"store=", window::STORE, store),
+        script::front(line, b"store=", window::STORE, store),
         script::long(line, b"tick="),
         script::number(line, b"count="),
     )
@@ -141,14 +141,14 @@ fn resent(
 }
 
 // A resend, with room for so many bytes.
-fn resends(rt: &impl Print, s: Sender, store: &mut [u8], line: &[u8]) -> io::Result<Sender> {
+fn resends(rt: &impl Print, s: Sender, store: &[u8], line: &[u8]) -> io::Result<Sender> {
     let mut out = [0u8; 1233];
     resent(
         rt,
         s,
-        script::lent(line, b"store=", window::STORE, store),
+        &store[..script::lent(line, b"store=", window::STORE, store.len())],
         script::long(line, b"tick="),
-        script::lent(line, b"room=", 0, &mut out),
+        script::front(line, b"room=", 0, &mut out),
     )
 }
 

@@ -111,7 +111,7 @@ number_given ds v some lead digits e h =
     let l : value_of ds < 4294967296 = omega arith in
     when _ _ _ _ (all_every _ (ap not (ne_eqb (length ds) 0 some), (ap not lead, (sym digits, (lt-ltb (value_of ds) 4294967296 l, tt))))) (ap Some e)
 
--- the number under a key, which `strip_prefix` takes from the line
+-- the number under a key, by what stands behind it
 pub under_other : (key l : List ℕ) → pointwise eqb (take (length key) l) key ≡ false → None ≡ number_under key l
 unfolding number_under
 under_other key l h = unless _ _ _ _ (sym (prefix_eq key l) ∙ h) refl

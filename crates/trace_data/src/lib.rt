@@ -33,9 +33,10 @@ fn hex(text: &[u8]) -> bool
 fn well_written(kind: u8, line: &[u8]) -> bool
     ensures { result ≡ data_good kind line.now }
 {
-    let Some(text) = line.strip_prefix(b"data=") else {
+    if !trace_words::starts(line, b"data=") {
         return false;
-    };
+    }
+    let text = &line[5..];
     hex(text) && (trace::has_data(kind) || text.is_empty())
 }
 

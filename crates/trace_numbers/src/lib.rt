@@ -39,14 +39,21 @@ fn number(text: &[u8]) -> Option<u32>
 pub fn number_under(line: &[u8], key: &[u8]) -> Option<u32>
     ensures { result ≡ number_under key.now line.now }
 {
-    number(line.strip_prefix(key)?)
+    // By `starts`, whose contract is the trace's own definition; so too `first_numbers` and `trace_data::well_written`.
+    if !trace_words::starts(line, key) {
+        return None;
+    }
+    number(&line[key.len()..])
 }
 
 // The two numbers of the line `first=`.
 pub fn first_numbers(line: &[u8]) -> Option<(u32, u32)>
     ensures { result ≡ first_of line.now }
 {
-    let both = line.strip_prefix(b"first=")?;
+    if !trace_words::starts(line, b"first=") {
+        return None;
+    }
+    let both = &line[6..];
     let comma = trace_words::find(both, 0, b',');
     if comma == both.len() {
         return None;

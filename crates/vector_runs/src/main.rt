@@ -73,7 +73,7 @@ fn line(rt: &impl Print, line: &[u8]) -> io::Result<()> {
     let mut out = [0u8; 64];
     let n = given(line, &mut states);
     script::name(rt, line)?;
-    written(rt, &states[..n], script::lent(line, b"room=", 0, &mut out))
+    written(rt, &states[..n], script::front(line, b"room=", 0, &mut out))
 }
 
 fn main(rt: HostRuntime) -> io::Result<()> {

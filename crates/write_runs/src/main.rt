@@ -35,7 +35,7 @@ fn run(rt: &impl Print, line: &[u8]) -> io::Result<()> {
         &additions[..a],
         &coded[..c],
         &block[..b],
-        script::lent(line, b"room=", 0, &mut out),
+        script::front(line, b"room=", 0, &mut out),
     )
 }
 
