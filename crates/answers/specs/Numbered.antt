@@ -29,14 +29,14 @@ use Rattle.sender.specs.Acknowledge as acknowledging
 use Rattle.sender.specs.Send.{new_answer, resend_answer}
 use Rattle.sender.specs.Sweep.{sweep_answer}
 use Rattle.sender.specs.Known as sender
-use Rattle.endpoint.specs.Open.{open_answer, told_of, opened_of, fresh_pair, zero_pair}
+use Rattle.endpoint.specs.Open.{open_answer, told_of, opened_of}
 use Rattle.endpoint.specs.Receive.{Halves, receive_answer}
 use Rattle.endpoint.specs.Calls.{Endpoint, Call, answer_of}
 use Rattle.endpoint.specs.Known.{receive_known, answers_known}
 use Rattle.session.specs.Call.{Made}
 use Rattle.session.specs.Open.{Opening}
 use Rattle.session.specs.Place.{place_answer}
-use Rattle.session.specs.Known.{place_known}
+use Rattle.session.specs.Known.{place_known, opened_known}
 use Rattle.session.specs.Shapes.{opened_by, granted_by, counted_by, tally_by}
 
 -- "14: output buffer too short for this answer"
@@ -102,16 +102,6 @@ event_known tick kind bytes room = first_known _ refl
 pub open_known : (firstdata firstchannel timeout : ℕ) → is_answer (open_answer firstdata firstchannel timeout) ≡ true
 unfolding open_answer is_answer
 open_known firstdata firstchannel timeout = first_known _ refl
-
--- opening gives its answer by the number
-pub opened_known : (firstdata firstchannel timeout : ℕ) → is_answer (opened_of 32 firstdata firstchannel timeout).answer ≡ true
-unfolding opened_of is_answer
-opened_known firstdata firstchannel timeout = go (eqb (open_answer firstdata firstchannel timeout) 0)
-  where
-    go : (t : Bool)
-        → is_answer (cond t (fresh_pair 32 0 firstdata firstchannel timeout) (zero_pair 32 (open_answer firstdata firstchannel timeout))).answer ≡ true
-    go true = refl
-    go false = open_known firstdata firstchannel timeout
 
 -- The answer of each call, as its contract gives it, has the number of the definition that the contract cites: for all that it is given, refused or not, and
 -- whatever bytes it writes. Those of a session's calls are `made_told` and `opening_told` of session/specs/Known. `carrying::put_data`, `trace_head::head` and

@@ -29,7 +29,7 @@ made_known count number token old store q = go (eqb (place_answer count number t
     go true = done_known old store q
     go false = place_known count number token old.token
 
-opened_known : (firstdata firstchannel timeout : ℕ) → is_answer (endpoint.opened_of 32 firstdata firstchannel timeout).answer ≡ true
+pub opened_known : (firstdata firstchannel timeout : ℕ) → is_answer (endpoint.opened_of 32 firstdata firstchannel timeout).answer ≡ true
 unfolding endpoint.opened_of endpoint.open_answer is_answer
 opened_known firstdata firstchannel timeout = go (eqb (endpoint.open_answer firstdata firstchannel timeout) 0)
   where

@@ -6,14 +6,12 @@ use mathlib.Core.Path.{◌≡◌, refl, sym, ◌∙◌, ap}
 use native.Mathlib.Numerals.{add-one}
 use native.Mathlib.Omega.{arith}
 use lib.Dec.{eqb}
-use lib.Pointwise.{pointwise}
 use lib.ListN.{length, take, drop, set, get_or, drop_of_length-le}
 use lib.Seq.{drop-cons, paste, paste-suc, take-length}
 use Rattle.common.specs.Choice.{when, unless}
 use Rattle.common.specs.Every.{every}
 use Rattle.common.specs.EveryLaws.{every_fails}
 use Rattle.text.specs.Ascii.{ascii}
-use Rattle.trace.proofs.Words.{prefix_eq}
 use Rattle.common.specs.Laid.{Laid}
 use Rattle.common.specs.Put.{put_of}
 use Rattle.trace.specs.Hex.{is_hex, hex_value, all_hex, hex_good, hex_bytes}
@@ -69,17 +67,16 @@ unfolding data_bytes
 data_laid l d p = record { bytes = p ∙ ap (λ (t : List ℕ). put_of d 0 (hex_bytes t)) (to_end 5 l); next = omega (arith, data_length l) }
 
 -- a line of data, by what stands behind its key
-pub data_unkeyed : (kind : ℕ) (l : List ℕ) → pointwise eqb (take 5 l) (ascii "data=") ≡ false → false ≡ data_good kind l
+pub data_unkeyed : (kind : ℕ) (l : List ℕ) → starts_with (ascii "data=") l ≡ false → false ≡ data_good kind l
 unfolding data_good
-data_unkeyed kind l h = every_fails _ 0 (sym (prefix_eq (ascii "data=") l) ∙ h)
+data_unkeyed kind l h = every_fails _ 0 h
 
-pub data_keyed : (kind : ℕ) (l t : List ℕ) → pointwise eqb (take 5 l) (ascii "data=") ≡ true → t ≡ drop 5 l → length t + 5 ≡ length l
+pub data_keyed : (kind : ℕ) (l t : List ℕ) → starts_with (ascii "data=") l ≡ true → t ≡ drop 5 l → length t + 5 ≡ length l
     → cond (hex_good t) (cond (carries kind) true (eqb (length t) 0)) false ≡ data_good kind l
 unfolding data_good every
 data_keyed kind l t h p n =
-    let k : starts_with (ascii "data=") l ≡ true = sym (prefix_eq (ascii "data=") l) ∙ h in
     let e : eqb (length l) 5 ≡ eqb (length t) 0 = grind arith in
-    rw (k, e, ← p) (go (hex_good t) (cond (carries kind) true (eqb (length t) 0)))
+    rw (h, e, ← p) (go (hex_good t) (cond (carries kind) true (eqb (length t) 0)))
   where
     go : (a b : Bool) → cond a b false ≡ cond a (cond b true false) false
     go true true = refl

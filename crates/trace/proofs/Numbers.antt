@@ -8,7 +8,6 @@ use native.Mathlib.Omega.{arith}
 use borrow.Author.Tests.{leb-true, lt-ltb, le-ltb, ltb-false, eq-eqb, ne_eqb}
 use lib.ListN.{length, take, drop, get_or, length-take, drop_of_length-le}
 use lib.Seq.{drop-cons}
-use lib.Pointwise.{pointwise}
 use lib.Dec.{eqb, ltb, leb}
 use Rattle.common.specs.Choice.{when, unless}
 use Rattle.common.specs.EveryLaws.{every_fails, all_every}
@@ -18,8 +17,8 @@ use Rattle.text.specs.Decimal.{value_from, value_of}
 use Rattle.std.specs.Prelude.{Option, None, Some}
 use Rattle.trace.specs.Lines.{up_to, past}
 use Rattle.trace.specs.LinesLaws.{up_to_length, up_to_take, past_drop}
+use Rattle.trace.specs.Words.{starts_with}
 use Rattle.trace.specs.WordsLaws.{to_end}
-use Rattle.trace.proofs.Words.{prefix_eq}
 use Rattle.trace.specs.Numbers.{is_digit, all_digits, leading_zero, is_number, number_of, number_under, on_number, pair_of, first_of}
 
 -- a digit is not below `0`, nor above `9`
@@ -112,29 +111,29 @@ number_given ds v some lead digits e h =
     when _ _ _ _ (all_every _ (ap not (ne_eqb (length ds) 0 some), (ap not lead, (sym digits, (lt-ltb (value_of ds) 4294967296 l, tt))))) (ap Some e)
 
 -- the number under a key, by what stands behind it
-pub under_other : (key l : List ℕ) → pointwise eqb (take (length key) l) key ≡ false → None ≡ number_under key l
+pub under_other : (key l : List ℕ) → starts_with key l ≡ false → None ≡ number_under key l
 unfolding number_under
-under_other key l h = unless _ _ _ _ (sym (prefix_eq key l) ∙ h) refl
+under_other key l h = unless _ _ _ _ h refl
 
-pub under_key : {v : Option ℕ} (key l t : List ℕ) → pointwise eqb (take (length key) l) key ≡ true → t ≡ drop (length key) l → v ≡ number_of t
+pub under_key : {v : Option ℕ} (key l t : List ℕ) → starts_with key l ≡ true → t ≡ drop (length key) l → v ≡ number_of t
     → v ≡ number_under key l
 unfolding number_under
-under_key key l t h p e = when _ _ _ _ (sym (prefix_eq key l) ∙ h) (e ∙ ap number_of p)
+under_key key l t h p e = when _ _ _ _ h (e ∙ ap number_of p)
 
 -- two numbers, of which the second is badly written
 no_second : (v w : Option ℕ) → None ≡ w → ◌≡◌ {A = Option (ℕ × ℕ)} None (on_number v (λ d. on_number w (λ c. Some (d, c)) None) None)
 no_second (Some d) w e = rw (← e) refl
 no_second None w e = refl
 
-pub first_other : (l : List ℕ) → pointwise eqb (take 6 l) (ascii "first=") ≡ false → None ≡ first_of l
+pub first_other : (l : List ℕ) → starts_with (ascii "first=") l ≡ false → None ≡ first_of l
 unfolding first_of
-first_other l h = unless _ _ _ _ (sym (prefix_eq (ascii "first=") l) ∙ h) refl
+first_other l h = unless _ _ _ _ h refl
 
 pub comma_within : (t : List ℕ) (comma : ℕ) → comma ≡ 0 + length (up_to 44 t) → comma ≤ length t
 comma_within t comma at = omega (arith, up_to_length 44 t)
 
 -- the two numbers around the comma that was found in what stands behind the key
-module _ (l t : List ℕ) (comma : ℕ) (key : pointwise eqb (take 6 l) (ascii "first=") ≡ true) (rest : t ≡ drop 6 l) (at : comma ≡ 0 + length (up_to 44 t)) where
+module _ (l t : List ℕ) (comma : ℕ) (key : starts_with (ascii "first=") l ≡ true) (rest : t ≡ drop 6 l) (at : comma ≡ 0 + length (up_to 44 t)) where
   before_comma : take comma t ≡ up_to 44 (drop 6 l)
   before_comma =
       let e : comma ≡ length (up_to 44 t) = omega arith in
@@ -147,12 +146,12 @@ module _ (l t : List ℕ) (comma : ℕ) (key : pointwise eqb (take 6 l) (ascii "
 
   pub first_data_bad : None ≡ number_of (take comma t) → None ≡ first_of l
   unfolding first_of pair_of
-  first_data_bad e = when _ _ _ _ (sym (prefix_eq (ascii "first=") l) ∙ key) (rw (← (e ∙ ap number_of before_comma)) refl)
+  first_data_bad e = when _ _ _ _ key (rw (← (e ∙ ap number_of before_comma)) refl)
 
   pub first_channel_bad : None ≡ number_of (take (length t - (comma + 1)) (drop (comma + 1) t)) → None ≡ first_of l
   unfolding first_of pair_of
   first_channel_bad e =
-      when _ _ _ _ (sym (prefix_eq (ascii "first=") l) ∙ key)
+      when _ _ _ _ key
       (no_second (number_of (up_to 44 (drop 6 l))) (number_of (past 44 (drop 6 l))) (e ∙ ap number_of behind_comma))
 
   pub first_no_comma : comma ≡ length t → None ≡ first_of l
@@ -162,4 +161,4 @@ module _ (l t : List ℕ) (comma : ℕ) (key : pointwise eqb (take 6 l) (ascii "
       → Some c ≡ number_of (take (length t - (comma + 1)) (drop (comma + 1) t)) → Some (d, c) ≡ first_of l
   unfolding first_of pair_of
   first_both d c e f =
-      when _ _ _ _ (sym (prefix_eq (ascii "first=") l) ∙ key) (rw (← (e ∙ ap number_of before_comma), ← (f ∙ ap number_of behind_comma)) refl)
+      when _ _ _ _ key (rw (← (e ∙ ap number_of before_comma), ← (f ∙ ap number_of behind_comma)) refl)

@@ -50,10 +50,6 @@ same_eq (x ∷ xs) (y ∷ ys) = go (eqb x y) (same_eq xs ys)
     go true e = e
     go false e = refl
 
-pub prefix_eq : (key l : List ℕ) → pointwise eqb (take (length key) l) key ≡ starts_with key l
-unfolding starts_with
-prefix_eq key l = same_eq (take (length key) l) key
-
 pub starts_eq : (key l : List ℕ) → pointwise eqb key (take (length key) l) ≡ starts_with key l
 unfolding starts_with
 starts_eq key l = same_eq key (take (length key) l) ∙ same_turned key (take (length key) l)

@@ -13,7 +13,6 @@ use Rattle.trace.specs.Kinds.{carries}
 use Rattle.trace.specs.Read.{data_good}
 use Rattle.trace.specs.Words.{starts_with}
 use Rattle.trace.specs.WordsLaws.{starts_length, to_end}
-use Rattle.trace.proofs.Words.{prefix_eq}
 use Rattle.trace.proofs.Decoded.{data_unkeyed, data_keyed}
 use Rattle.trace_data.proofs.well_written.Goals as goal
 
@@ -22,10 +21,10 @@ keyed : (kind : ℕ) (l : List ℕ) → starts_with (ascii "data=") l ≡ true
 keyed kind l h =
     let t = take (length l - 5) (drop 5 l) in
     let n : length t + 5 ≡ length l = omega (arith, ap length (to_end 5 l), length-drop 5 l, starts_length (ascii "data=") l h) in
-    data_keyed kind l t (prefix_eq (ascii "data=") l ∙ h) (to_end 5 l) n
+    data_keyed kind l t h (to_end 5 l) n
 
 pub returns-then-not-starts : goal.returns-then-not-starts
-returns-then-not-starts c = data_unkeyed _ _ (prefix_eq (ascii "data=") _ ∙ sym c.starts.ensures ∙ c.if-not-starts.true)
+returns-then-not-starts c = data_unkeyed _ _ (sym c.starts.ensures ∙ c.if-not-starts.true)
 
 pub slice_bounds-text-count : goal.slice_bounds-text-count
 slice_bounds-text-count c = starts_length (ascii "data=") _ (sym c.starts.ensures ∙ c.if-not-starts.false)
